@@ -1,4 +1,5 @@
--- What the end of a child means for its test. The status 77 for a skipped test is that of automake; the rest is a choice of this project.
+-- What the end of a child means for its test. The status 77 for a skipped test is that of automake; the rest is a
+-- choice of this project.
 use Rattle.std.specs.Prelude.{ℕ, zero, suc, ◌≡◌, ◌==◌, Bool, true, false, List, Option, Some, None, pos, negsuc, if◌then◌else◌}
 use Rattle.xd_edge.specs.Children.{ChildRun, ChangesRun, with_last}
 use Rattle.xd_edge.specs.declared.children.ChildEnd.{ChildEnd}

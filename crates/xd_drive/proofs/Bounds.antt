@@ -13,7 +13,7 @@ use Rattle.xd_journal.specs.declared.entry.Entry.{Entry}
 use Rattle.xd_journal.specs.declared.entry.Entry.TheVariants.{Ready, Collected, Done, Back, Finished, Refused, Down, NotStarted, Start, Run, RunAll, Steal, Shutdown, Kill, Over}
 use Rattle.xd_ledger.specs.declared.member.Listed.{Listed}
 use Rattle.xd_ledger.specs.Numbers.{among, without, all_distinct, all_among, times}
-use Rattle.xd_ledger.specs.Table.{Table, all_items, held, held_by_all}
+use Rattle.xd_ledger.specs.Table.{Table, all_items, held}
 use Rattle.xd_ledger.specs.Plan.{Plan, base, is_each, items_named, slot_items, total}
 use Rattle.xd_ledger.specs.Books.{marked}
 use Rattle.xd_ledger.specs.Workers.{is_active, was_ready, has_collected, made_collected}
@@ -21,8 +21,9 @@ use Rattle.xd_ledger.specs.Collections.{ids_of, key, listed, listed_in, lists_wi
 use Rattle.xd_ledger.specs.Sharing.{State, in_books, ids_at, shared_now, sizes_from}
 use Rattle.xd_ledger.specs.State.{after_effect}
 use Rattle.xd_edge.specs.Limits.{most_tests}
-use Rattle.xd_ledger.specs.Proper.{are_ids, is_id, may_follow, no_text_twice}
-use Rattle.xd_laws.proofs.Logic.{cases_of, differ, split-and}
+use Rattle.xd_edge.specs.Ids.{is_id}
+use Rattle.xd_ledger.specs.Proper.{are_ids, may_follow, no_text_twice}
+use Rattle.xd_laws.proofs.Logic.{differ, split-and}
 use Rattle.xd_laws.proofs.Counts.{among-filter, among-times, among_of-all_among, all_among-of, times-among}
 use Rattle.xd_laws.proofs.Inputs.{collecting-keeps}
 use Rattle.xd_laws.proofs.Placed.{Placed, due_times}

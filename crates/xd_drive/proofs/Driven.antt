@@ -32,13 +32,13 @@ use Rattle.xd_drive.specs.Moments.{ToldInOrder, performed_of}
 use Rattle.xd_drive.specs.Performing.{AddsAll, Performs, all_possible, is_call, is_start, kills_of_started}
 use Rattle.xd_report.specs.Printing.{ShowsEnd}
 use Rattle.xd_drive.specs.Taken.{AreInTime, taken_of}
-use Rattle.xd_drive.proofs.Failing.{failed-behind, failed-part}
+use Rattle.xd_drive.proofs.Failing.{failed-following, failed-part}
 use Rattle.xd_drive.proofs.InOrder.{order-broken}
 use Rattle.xd_drive.proofs.Kept.{kept-ended}
 use Rattle.xd_drive.proofs.Loop.{whole-of}
 use Rattle.xd_drive.proofs.Performs.{performs-more}
 use Rattle.xd_drive.proofs.Stepped.{state-is}
-use Rattle.xd_drive.proofs.Texts.{silent-ending, text-behind, text-is}
+use Rattle.xd_drive.proofs.Texts.{silent-ending, text-following, text-is}
 
 -- the end asks for no start and no call where the run is over
 over-performs : (es : List Entry) (b : Books) (s0 s1 c0 c1 : _) → Performs es s0 s1 c0 c1 → Performs (es ++ ending false b) s0 s1 c0 c1
@@ -59,7 +59,7 @@ module _ (failed : Bool) (s : SessionSeen) (given : List News) (j : Journal) (p 
   }
 
   text-same : text_of j ≡ run_text s.settings s.entries
-  text-same = text-is j s.settings (s.entries ++ ending failed (state_of s).books) same entries_are ∙ text-behind (ending failed (state_of s).books) (silent-ending failed (state_of s).books) s.settings s.entries
+  text-same = text-is j s.settings (s.entries ++ ending failed (state_of s).books) same entries_are ∙ text-following (ending failed (state_of s).books) (silent-ending failed (state_of s).books) s.settings s.entries
 
 pub whole : (s : SessionSeen) (j : Journal) (old new : HubScene) → IsProper s.settings [] → j.settings ≡ s.settings → j.entries.items ≡ s.entries ++ ending false (state_of s).books → stop_of j ≡ last_stop false (state_of s).books → EndsRun WholeAt s old new
     → (given : List News) × Whole given j old new
@@ -96,7 +96,7 @@ broken count s j old mid new p same is stop e kills given sunk =
         failed = subst (λ (o : Option Sunk). FailedAt j.settings (taken_of j.settings (e.0)) count j.entries.items old.sunk o) (sym sunk)
             (subst (λ (x : Settings). FailedAt x (taken_of x (e.0)) count j.entries.items old.sunk mid.sunk) (sym same)
             (subst (λ (es : List Entry). FailedAt s.settings (taken_of s.settings (e.0)) count es old.sunk mid.sunk) (sym is)
-            (failed-behind s.settings (taken_of s.settings (e.0)) count s.entries old.sunk mid.sunk (ending true (state_of s).books) (silent-ending true (state_of s).books) f.within f.failed)));
+            (failed-following s.settings (taken_of s.settings (e.0)) count s.entries old.sunk mid.sunk (ending true (state_of s).books) (silent-ending true (state_of s).books) f.within f.failed)));
         shows = subst (λ (o : Option Sunk). PrintedPart (text_of j) old.sunk o) (sym sunk) (subst (λ (l : List ℕ). PrintedPart l old.sunk mid.sunk) (sym (text-same true s (e.0) j p same is f.stands))
             (failed-part s.settings (taken_of s.settings (e.0)) count s.entries old.sunk mid.sunk f.stands.entries f.failed));
       },
@@ -108,13 +108,13 @@ pub whole-by : (failed : Bool) (s : SessionSeen) (j : Journal) (taken : List New
 whole-by failed s j taken p same is may st =
     let k = sound-run s.settings taken p in
     let ins = (run_of s.settings taken).inputs in
-    let behind : state_of s ≡ after_inputs (after_starts s.settings) ins = state-is s taken p st ∙ k.state in
+    let following : state_of s ≡ after_inputs (after_starts s.settings) ins = state-is s taken p st ∙ k.state in
     record {
       inputs = ins;
       proper = subst (λ (x : Settings). IsProper x ins) (sym same) k.proper;
       out_failed = failed;
-      may = ap (λ (x : Settings). may_close failed (after_inputs (after_starts x) ins).books) same ∙ ap (λ (x : State). may_close failed x.books) (sym behind) ∙ may;
-      entries = is ∙ ap (λ (es : List Entry). es ++ ending failed (state_of s).books) (st.entries ∙ k.journal) ∙ ap (λ (x : State). journal_of s.settings ins ++ ending failed x.books) behind
+      may = ap (λ (x : Settings). may_close failed (after_inputs (after_starts x) ins).books) same ∙ ap (λ (x : State). may_close failed x.books) (sym following) ∙ may;
+      entries = is ∙ ap (λ (es : List Entry). es ++ ending failed (state_of s).books) (st.entries ∙ k.journal) ∙ ap (λ (x : State). journal_of s.settings ins ++ ending failed x.books) following
           ∙ ap (λ (x : Settings). journal_of x ins ++ ending failed (after_inputs (after_starts x) ins).books) (sym same);
     }
 

@@ -16,7 +16,7 @@ use Rattle.xd_drive.specs.Failing.{FailedAt}
 use Rattle.xd_edge.specs.Printing.{BreaksOff}
 use Rattle.xd_drive.proofs.Loop.{lines-join}
 use Rattle.xd_edge.proofs.PrintLemmas.{broken-part, printed_is_part}
-use Rattle.xd_drive.proofs.Texts.{lines-behind, silent, tail-behind, text-behind}
+use Rattle.xd_drive.proofs.Texts.{lines-following, silent, tail-following, text-following}
 
 module _ (x : Settings) (taken : List News) (count : ℕ) (es : List Entry) (old new : Option Sunk) where
   -- entries after that print nothing change nothing of it
@@ -27,22 +27,22 @@ module _ (x : Settings) (taken : List News) (count : ℕ) (es : List Entry) (old
     lines-are : lines_from (after_entries (no_one x) (take count (es ++ ys))) (drop count (es ++ ys)) ≡ lines_from (after_entries (no_one x) (take count es)) (drop count es)
     lines-are =
         ap (λ (l : List Entry). lines_from (after_entries (no_one x) l) (drop count (es ++ ys))) first-are
-        ∙ ap (lines_from (after_entries (no_one x) (take count es))) (drop-append-le count es ys within) ∙ lines-behind ys quiet (after_entries (no_one x) (take count es)) (drop count es)
+        ∙ ap (lines_from (after_entries (no_one x) (take count es))) (drop-append-le count es ys within) ∙ lines-following ys quiet (after_entries (no_one x) (take count es)) (drop count es)
 
-    breaks-behind : (a b : List ℕ) → a ≡ b → BreaksOff (run_lines x (take count es)) a old new → BreaksOff (run_lines x (take count (es ++ ys))) b old new
-    breaks-behind a b same h = subst (λ (l : List ℕ). BreaksOff (run_lines x (take count (es ++ ys))) l old new) same (subst (λ (l : List Entry). BreaksOff (run_lines x l) a old new) (sym first-are) h)
+    breaks-following : (a b : List ℕ) → a ≡ b → BreaksOff (run_lines x (take count es)) a old new → BreaksOff (run_lines x (take count (es ++ ys))) b old new
+    breaks-following a b same h = subst (λ (l : List ℕ). BreaksOff (run_lines x (take count (es ++ ys))) l old new) same (subst (λ (l : List Entry). BreaksOff (run_lines x l) a old new) (sym first-are) h)
 
-    shows-behind : BreaksOff (run_lines x (take count es)) (run_tail x es) old new ⊎ Printed (run_text x es) old new
+    shows-following : BreaksOff (run_lines x (take count es)) (run_tail x es) old new ⊎ Printed (run_text x es) old new
         → BreaksOff (run_lines x (take count (es ++ ys))) (run_tail x (es ++ ys)) old new ⊎ Printed (run_text x (es ++ ys)) old new
-    shows-behind (inl h) = inl (breaks-behind (run_tail x es) (run_tail x (es ++ ys)) (sym (tail-behind ys quiet x es)) h)
-    shows-behind (inr h) = inr (subst (λ (l : List ℕ). Printed l old new) (sym (text-behind ys quiet x es)) h)
+    shows-following (inl h) = inl (breaks-following (run_tail x es) (run_tail x (es ++ ys)) (sym (tail-following ys quiet x es)) h)
+    shows-following (inr h) = inr (subst (λ (l : List ℕ). Printed l old new) (sym (text-following ys quiet x es)) h)
 
-    pub failed-behind : FailedAt x taken count es old new → FailedAt x taken count (es ++ ys) old new
-    failed-behind (inl f) = inl (record {
+    pub failed-following : FailedAt x taken count es old new → FailedAt x taken count (es ++ ys) old new
+    failed-following (inl f) = inl (record {
       before = (f.before.0, f.before.1, f.before.2, first-are ∙ f.before.3);
-      shows = breaks-behind _ _ (sym lines-are) f.shows;
+      shows = breaks-following _ _ (sym lines-are) f.shows;
     })
-    failed-behind (inr f) = inr (record { over = f.over; all = first-are ∙ f.all; shows = shows-behind f.shows })
+    failed-following (inr f) = inr (record { over = f.over; all = first-are ∙ f.all; shows = shows-following f.shows })
 
   lines-whole : run_lines x (take count es) ++ lines_from (after_entries (no_one x) (take count es)) (drop count es) ≡ run_lines x es
   lines-whole = sym (lines-join (no_one x) (take count es) (drop count es)) ∙ ap (run_lines x) (take-append-drop count es)

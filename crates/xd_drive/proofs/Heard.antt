@@ -26,20 +26,20 @@ abbrev pub ready : ℕ → List Member → Bool
 ready w ms = has w (λ m. m.ready) ms
 
 -- the members after an input
-pub record MembersBehind (before : List Member) (e : Entry) (behind : List Member) : Type 0 where
-  pub members : (v : ℕ) → is_member v behind ≡ is_member v before
-  pub active : (v : ℕ) → active v behind ≡ (active v before && not (leaves v e))
-  pub ready : (v : ℕ) → ready v behind ≡ true → (ready v before ≡ true) ⊎ (readies v e ≡ true)
+pub record MembersAfter (before : List Member) (e : Entry) (following : List Member) : Type 0 where
+  pub members : (v : ℕ) → is_member v following ≡ is_member v before
+  pub active : (v : ℕ) → active v following ≡ (active v before && not (leaves v e))
+  pub ready : (v : ℕ) → ready v following ≡ true → (ready v before ≡ true) ⊎ (readies v e ≡ true)
 
 and-true : (b : Bool) → b ≡ (b && true)
 and-true true = refl
 and-true false = refl
 
-behind-same : (ms : List Member) (e : Entry) → ((v : ℕ) → leaves v e ≡ false) → MembersBehind ms e ms
-behind-same ms e k = record { members = λ v. refl; active = λ v. and-true (active v ms) ∙ ap (λ (b : Bool). active v ms && not b) (sym (k v)); ready = λ v h. inl h }
+following-same : (ms : List Member) (e : Entry) → ((v : ℕ) → leaves v e ≡ false) → MembersAfter ms e ms
+following-same ms e k = record { members = λ v. refl; active = λ v. and-true (active v ms) ∙ ap (λ (b : Bool). active v ms && not b) (sym (k v)); ready = λ v h. inl h }
 
-behind-ready : (ms : List Member) (w : ℕ) → MembersBehind ms (Ready w) (map (made_ready w) ms)
-behind-ready ms w = record {
+following-ready : (ms : List Member) (w : ℕ) → MembersAfter ms (Ready w) (map (made_ready w) ms)
+following-ready ms w = record {
   members = λ v. has-same v (λ m. true) (made_ready w) ms (λ m. refl) (λ m. refl);
   active = λ v. has-same v (λ m. m.active) (made_ready w) ms (λ m. refl) (λ m. refl) ∙ and-true (active v ms);
   ready = λ v h. (let q = sym (has-set v w (λ m. m.ready) (made_ready w) ms (λ m. refl) (λ m. refl)) ∙ h in elim (cases_of (v == w)) [
@@ -48,8 +48,8 @@ behind-ready ms w = record {
   ]);
 }
 
-behind-collected : (ms : List Member) (w : ℕ) (g : _) → MembersBehind ms (Collected w g) (map (made_collected w) ms)
-behind-collected ms w g = record {
+following-collected : (ms : List Member) (w : ℕ) (g : _) → MembersAfter ms (Collected w g) (map (made_collected w) ms)
+following-collected ms w g = record {
   members = λ v. has-same v (λ m. true) (made_collected w) ms (λ m. refl) (λ m. refl);
   active = λ v. has-same v (λ m. m.active) (made_collected w) ms (λ m. refl) (λ m. refl) ∙ and-true (active v ms);
   ready = λ v h. inl (sym (has-same v (λ m. m.ready) (made_collected w) ms (λ m. refl) (λ m. refl)) ∙ h);
@@ -59,33 +59,33 @@ and-turned : (v w : ℕ) (b : Bool) → (not (v == w) && b) ≡ (b && not (w == 
 and-turned v w true = grind (arith, nat_tests)
 and-turned v w false = grind (arith, nat_tests)
 
-behind-gone : (ms : List Member) (w : ℕ) (e : Entry) → ((v : ℕ) → leaves v e ≡ (w == v)) → MembersBehind ms e (map (made_gone w) ms)
-behind-gone ms w e k = record {
+following-gone : (ms : List Member) (w : ℕ) (e : Entry) → ((v : ℕ) → leaves v e ≡ (w == v)) → MembersAfter ms e (map (made_gone w) ms)
+following-gone ms w e k = record {
   members = λ v. has-same v (λ m. true) (made_gone w) ms (λ m. refl) (λ m. refl);
   active = λ v. has-cleared v w (λ m. m.active) (made_gone w) ms (λ m. refl) (λ m. refl) ∙ and-turned v w (active v ms) ∙ ap (λ (b : Bool). active v ms && not b) (sym (k v));
   ready = λ v h. inl (sym (has-same v (λ m. m.ready) (made_gone w) ms (λ m. refl) (λ m. refl)) ∙ h);
 }
 
-pub members-behind : (s : State) (e : Entry) → may_follow s e ≡ true → MembersBehind s.books.members e (after_effect s e).books.members
-members-behind s (Ready w) h = behind-ready s.books.members w
-members-behind s (Collected w g) h =
+pub members-following : (s : State) (e : Entry) → may_follow s e ≡ true → MembersAfter s.books.members e (after_effect s e).books.members
+members-following s (Ready w) h = following-ready s.books.members w
+members-following s (Collected w g) h =
     let ms = s.books.members in
-    subst (λ (ns : List Member). MembersBehind ms (Collected w g) ns)
+    subst (λ (ns : List Member). MembersAfter ms (Collected w g) ns)
     (sym (collecting-keeps (λ (u : State). u.books.members ≡ map (made_collected w) ms) (in_books (λ b. marked (made_collected w) (with_list w g b)) s) w (unequal w g (listed w s.books)) refl refl refl (λ n. refl)))
-    (behind-collected ms w g)
-members-behind s (Done w i u m o) h = behind-same s.books.members (Done w i u m o) (λ v. refl)
-members-behind s (Back w is) h = behind-same s.books.members (Back w is) (λ v. refl)
-members-behind s (Finished w) h = behind-gone s.books.members w (Finished w) (λ v. refl)
-members-behind s (Refused w t) h = behind-gone s.books.members w (Refused w t) (λ v. refl)
-members-behind s (Down w c o) h = behind-gone s.books.members w (Down w c o) (λ v. refl)
-members-behind s (NotStarted w) h = behind-gone s.books.members w (NotStarted w) (λ v. refl)
-members-behind s (Start w slot) h = absurd (differ h)
-members-behind s (Run w is) h = absurd (differ h)
-members-behind s (RunAll w) h = absurd (differ h)
-members-behind s (Steal w is) h = absurd (differ h)
-members-behind s (Shutdown w) h = absurd (differ h)
-members-behind s (Kill w) h = absurd (differ h)
-members-behind s (Over how) h = absurd (differ h)
+    (following-collected ms w g)
+members-following s (Done w i u m o) h = following-same s.books.members (Done w i u m o) (λ v. refl)
+members-following s (Back w is) h = following-same s.books.members (Back w is) (λ v. refl)
+members-following s (Finished w) h = following-gone s.books.members w (Finished w) (λ v. refl)
+members-following s (Refused w t) h = following-gone s.books.members w (Refused w t) (λ v. refl)
+members-following s (Down w c o) h = following-gone s.books.members w (Down w c o) (λ v. refl)
+members-following s (NotStarted w) h = following-gone s.books.members w (NotStarted w) (λ v. refl)
+members-following s (Start w slot) h = absurd (differ h)
+members-following s (Run w is) h = absurd (differ h)
+members-following s (RunAll w) h = absurd (differ h)
+members-following s (Steal w is) h = absurd (differ h)
+members-following s (Shutdown w) h = absurd (differ h)
+members-following s (Kill w) h = absurd (differ h)
+members-following s (Over how) h = absurd (differ h)
 
 or-none : (b c : Bool) → (b || (c && false)) ≡ b
 or-none true c = refl
@@ -107,7 +107,7 @@ same_of v w h = grind (arith, nat_tests)
 -- an input keeps the agreement
 pub agrees-meant : (s : State) (marks : ℕ → Marks) (n : News) (e : Entry) → is_active n.worker s.books ≡ true → Meant s n.worker n.what e → Agrees s.books marks → Agrees (after_effect s e).books (λ w. marked_heard n w (marks w))
 agrees-meant s marks n e here m a =
-    let k = members-behind s e m.follow in
+    let k = members-following s e m.follow in
     let still : (w : ℕ) → is_active w s.books ≡ false → is_active w (after_effect s e).books ≡ false = λ w h. k.active w ∙ ap (λ (b : Bool). b && not (leaves w e)) h in
     record {
       started = λ w. a.started w ∙ sym (k.members w);

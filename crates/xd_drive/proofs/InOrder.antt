@@ -44,24 +44,24 @@ not-below a b h = grind (arith, nat_tests, h)
 between-more : (x : Settings) (es more : List Entry) (place : ℕ) (old m : HubScene) → place < length es → IsBetween x es place old m → IsBetween x (es ++ more) place old m
 between-more x es more place old m h b = record {
   called = b.called;
-  ahead = b.ahead;
-  performed = subst (λ (l : List Entry). Performs l old.starts m.starts old.calls m.calls) (sym (take-append-le b.called es more (let a = b.ahead in omega (arith, a, h)))) b.performed;
+  preceding = b.preceding;
+  performed = subst (λ (l : List Entry). Performs l old.starts m.starts old.calls m.calls) (sym (take-append-le b.called es more (let a = b.preceding in omega (arith, a, h)))) b.performed;
   told = b.told;
   with_it = b.with_it;
   within = (let w = b.within in omega (arith, w, length-append es more));
   shows = subst (λ (l : List Entry). ShowsSome (run_lines x l) old.sunk m.sunk) (sym (take-append-le b.told es more b.within)) b.shows;
 }
 
-order-behind : (x : Settings) (count : ℕ) (es more : List Entry) (old : HubScene) (ms : List HubScene) → count ≤ length es → InOrder x count es old ms → InOrder x count (es ++ more) old ms
-order-behind x count es more old ms l o place h = any-so _ _ ms (λ m b. between-more x es more place old m (omega (arith, h, l)) b) (o place h)
+order-following : (x : Settings) (count : ℕ) (es more : List Entry) (old : HubScene) (ms : List HubScene) → count ≤ length es → InOrder x count es old ms → InOrder x count (es ++ more) old ms
+order-following x count es more old ms l o place h = any-so _ _ ms (λ m b. between-more x es more place old m (omega (arith, h, l)) b) (o place h)
 
 order-more : (x : Settings) (es more : List Entry) (old m : HubScene) (ms : List HubScene) → InOrder x (length es) es old ms → Performs es old.starts m.starts old.calls m.calls → ShowsSome (run_lines x (es ++ more)) old.sunk m.sunk
     → InOrder x (length (es ++ more)) (es ++ more) old (ms ++ m ∷ [])
 order-more x es more old m ms o p s place h = elim (cases_of (nat_lt place (length es))) [
-  | inl e ↦ any-kept (λ n. IsBetween x (es ++ more) place old n) ms m (order-behind x (length es) es more old ms (omega arith) o place (below place (length es) e))
+  | inl e ↦ any-kept (λ n. IsBetween x (es ++ more) place old n) ms m (order-following x (length es) es more old ms (omega arith) o place (below place (length es) e))
   | inr e ↦ Any-push (λ n. IsBetween x (es ++ more) place old n) ms m (record {
     called = length es;
-    ahead = not-below place (length es) e;
+    preceding = not-below place (length es) e;
     performed = subst (λ (l : List Entry). Performs l old.starts m.starts old.calls m.calls) (sym (take-append_seam es more)) p;
     told = length (es ++ more);
     with_it = h;
@@ -133,7 +133,7 @@ order-stops n s0 s1 old mid new before after written count is t m o =
     (subst (λ (l : List Entry). ToldInOrder s0.settings count l old after) (sym told.told.1.entries)
     (subst (λ (k : ℕ). ToldInOrder s0.settings k (s0.entries ++ told.told.0) old after) (sym told.told.1.count_is)
     (subst (λ (ms : Option (List HubScene)). ToldInOrder s0.settings (length s0.entries) (s0.entries ++ told.told.0) old ms) (sym same)
-    (if-so before _ _ (λ b q. order-behind s0.settings (length s0.entries) s0.entries (told.told.0) old b (omega arith) q) o))))
+    (if-so before _ _ (λ b q. order-following s0.settings (length s0.entries) s0.entries (told.told.0) old b (omega arith) q) o))))
 
 -- the run is over, and at the tail the output failed or not
 pub order-over : (written : Written) (s : SessionSeen) (j : Journal) (old : HubScene) (ms : Option (List HubScene)) (a b : Option Sunk) → j.entries.items ≡ s.entries → EndsTail written j a b → ToldInOrder s.settings (length s.entries) s.entries old ms
@@ -147,7 +147,7 @@ order-ended : (failed : Bool) (count : ℕ) (j : Journal) (s : SessionSeen) (old
     → ToldInOrder j.settings count j.entries.items old ms
 order-ended failed count j s old ms same is l o =
     subst (λ (x : Settings). ToldInOrder x count j.entries.items old ms) (sym same)
-    (subst (λ (es : List Entry). ToldInOrder s.settings count es old ms) (sym is) (if-so ms _ _ (λ b q. order-behind s.settings count s.entries (ending failed (state_of s).books) old b l q) o))
+    (subst (λ (es : List Entry). ToldInOrder s.settings count es old ms) (sym is) (if-so ms _ _ (λ b q. order-following s.settings count s.entries (ending failed (state_of s).books) old b l q) o))
 
 pub order-whole : (j : Journal) (s : SessionSeen) (old : HubScene) (ms : Option (List HubScene)) (written : Written) → ((x : ℕ) → written ≡ Broken x → ⊥) → j.settings ≡ s.settings → j.entries.items ≡ s.entries ++ ending false (state_of s).books
     → ToldInOrder s.settings (performed_of written s.entries) s.entries old ms → ToldInOrder j.settings (length j.entries.items - 1) j.entries.items old ms

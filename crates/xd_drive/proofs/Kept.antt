@@ -34,8 +34,8 @@ keeps-none (RunAll w ∷ ys) h = absurd (differ h)
 keeps-none (Steal w is ∷ ys) h = absurd (differ h)
 keeps-none (Shutdown w ∷ ys) h = absurd (differ h)
 
-bounded-behind : (es ys : List Entry) → list_all silent ys ≡ true → IsBounded es → IsBounded (es ++ ys)
-bounded-behind es ys h b =
+bounded-following : (es ys : List Entry) → list_all silent ys ≡ true → IsBounded es → IsBounded (es ++ ys)
+bounded-following es ys h b =
     let none = keeps-none ys h in
     let few = b.together in
     let same = spent-append es ys in
@@ -45,5 +45,5 @@ bounded-behind es ys h b =
 -- a session that stands for some news, with its end
 pub kept-ended : (failed : Bool) (taken : List News) (s : SessionSeen) → StandsFor taken s → IsBounded (s.entries ++ ending failed (state_of s).books)
 kept-ended failed taken s st =
-    bounded-behind s.entries (ending failed (state_of s).books) (silent-ending failed (state_of s).books)
+    bounded-following s.entries (ending failed (state_of s).books) (silent-ending failed (state_of s).books)
     (subst IsBounded (sym st.entries) (bounded-run s.settings taken (stands-proper taken s st)))

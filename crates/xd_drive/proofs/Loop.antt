@@ -16,7 +16,7 @@ use Rattle.xd_journal.specs.declared.entry.Entry.TheVariants.{Start}
 use Rattle.xd_journal.specs.declared.journal.Journal.{Journal}
 use Rattle.xd_ledger.specs.Workers.{started, is_active}
 use Rattle.xd_ledger.specs.Sharing.{State}
-use Rattle.xd_ledger.specs.State.{after_entries, after_effect, after_entry, no_one, reached, settled}
+use Rattle.xd_ledger.specs.State.{after_entries, after_effect, after_entry, no_one, reached}
 use Rattle.xd_ledger.specs.Ending.{ending}
 use Rattle.xd_ledger.specs.Histories.{after_starts, first_starts, is_over, starts_from}
 use Rattle.xd_ledger.specs.Proper.{IsProper}
@@ -54,9 +54,9 @@ agrees-none settings marks f = record {
   ready = λ w h. absurd (differ h);
 }
 
-pub record Starts (slots : ℕ) (marks : ℕ → Marks) (es : List Entry) (behind : State) : Type 0 where
+pub record Starts (slots : ℕ) (marks : ℕ → Marks) (es : List Entry) (following : State) : Type 0 where
   pub possible : all_possible slots marks es ≡ true
-  pub agrees : Agrees behind.books (marks_after es marks)
+  pub agrees : Agrees following.books (marks_after es marks)
 
 starts-go : (slots : ℕ) (k w : ℕ) (s : State) (marks : ℕ → Marks) → ((v : ℕ) → has v (λ m. true) s.books.members ≡ true → v < w) → Agrees s.books marks → w + k ≤ slots → Starts slots marks (starts_from w k) (after_entries s (starts_from w k))
 starts-go slots zero w s marks below a l = record { possible = refl; agrees = a }

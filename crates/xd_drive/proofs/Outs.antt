@@ -244,9 +244,9 @@ rota-tell : (t : State) (marks : ℕ → Marks) (w : ℕ) → Placed t → Agree
 rota-tell t marks w k a r = tell-of t.books marks w a (k.fits.active w r) (k.fits.ready w r)
 
 -- what is performed, and what it leaves
-pub record Goes (slots : ℕ) (marks : ℕ → Marks) (e : Entry) (behind : State) : Type 0 where
+pub record Goes (slots : ℕ) (marks : ℕ → Marks) (e : Entry) (following : State) : Type 0 where
   pub possible : possible slots marks e ≡ true
-  pub agrees : Agrees behind.books (marks_after_entry e marks)
+  pub agrees : Agrees following.books (marks_after_entry e marks)
 
 goes-same : (slots : ℕ) (marks : ℕ → Marks) (e : Entry) (t u : State) → u.books.members ≡ t.books.members → ((w : ℕ) → marks_after_entry e marks w ≡ marks w) → possible slots marks e ≡ true → Agrees t.books marks → Goes slots marks e u
 goes-same slots marks e t u c m p a = record {
@@ -382,9 +382,9 @@ plain-same t (Down w c o) h = absurd (differ h)
 plain-same t (NotStarted w) h = absurd (differ h)
 
 -- one output after another
-pub record AllGo (slots : ℕ) (marks : ℕ → Marks) (es : List Entry) (behind : State) : Type 0 where
+pub record AllGo (slots : ℕ) (marks : ℕ → Marks) (es : List Entry) (following : State) : Type 0 where
   pub possible : all_possible slots marks es ≡ true
-  pub agrees : Agrees behind.books (marks_after es marks)
+  pub agrees : Agrees following.books (marks_after es marks)
 
 pub all-go : (settings : Settings) (slots limit : ℕ) (marks : ℕ → Marks) (t : State) (es : List Entry) → limit ≤ slots → Plain (steals_in t) limit es → all_orderly t es ≡ true → Bounded settings t → Placed t → Agrees t.books marks
     → AllGo slots marks es (after_entries t es)

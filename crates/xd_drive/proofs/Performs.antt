@@ -58,8 +58,8 @@ module _ (es : List Entry) (i : ℕ) (e : Entry) (l : i < length es) (is : e ≡
   next_entry = take_more es i e l ∙ ap (λ (x : Entry). take i es ++ x ∷ []) (sym is)
 
   pub marks-next : (a b c : ℕ → Marks) → ((w : ℕ) → b w ≡ marks_after (take i es) a w) → ((w : ℕ) → c w ≡ marks_after_entry e b w) → (w : ℕ) → c w ≡ marks_after (take (i + 1) es) a w
-  marks-next a b c before behind w =
-      behind w ∙ ap (λ (f : ℕ → Marks). marks_after_entry e f w) (fun_ext before)
+  marks-next a b c before following w =
+      following w ∙ ap (λ (f : ℕ → Marks). marks_after_entry e f w) (fun_ext before)
       ∙ sym (ap (λ (xs : List Entry). marks_after xs a w) next_entry ∙ ap (λ (f : ℕ → Marks). f w) (after_all-join (take i es) (e ∷ []) a))
 
   pub performs-next : (s0 s1 s2 c0 c1 c2 : Option (List Entry)) → Performs (take i es) s0 s1 c0 c1 → Performs (e ∷ []) s1 s2 c1 c2 → Performs (take (i + 1) es) s0 s2 c0 c2
@@ -79,8 +79,8 @@ module _ (f : Entry → Bool) (es : List Entry) (i : ℕ) (e : Entry) (l : i < l
       (possible-join slots marks (filter f (take i es) ++ filter f (e ∷ [])) (filter f (drop (i + 1) es)) (sym (ap (all_possible slots marks) kept_all) ∙ h)).0).1
 
   pub kept-marks : (a b c : ℕ → Marks) → ((w : ℕ) → b w ≡ marks_after (filter f (take i es)) a w) → ((w : ℕ) → c w ≡ marks_after (filter f (e ∷ [])) b w) → (w : ℕ) → c w ≡ marks_after (filter f (take (i + 1) es)) a w
-  kept-marks a b c before behind w =
-      behind w ∙ ap (λ (g : ℕ → Marks). marks_after (filter f (e ∷ [])) g w) (fun_ext before)
+  kept-marks a b c before following w =
+      following w ∙ ap (λ (g : ℕ → Marks). marks_after (filter f (e ∷ [])) g w) (fun_ext before)
       ∙ sym (ap (λ (xs : List Entry). marks_after xs a w) kept_next ∙ ap (λ (g : ℕ → Marks). g w) (after_all-join (filter f (take i es)) (filter f (e ∷ [])) a))
 
   pub kept-performs : (s0 s1 s2 c0 c1 c2 : Option (List Entry)) → Performs (filter f (take i es)) s0 s1 c0 c1 → Performs (filter f (e ∷ [])) s1 s2 c1 c2 → Performs (filter f (take (i + 1) es)) s0 s2 c0 c2

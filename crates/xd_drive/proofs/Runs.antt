@@ -129,7 +129,7 @@ input-none r n a = ap (λ (b : Bool). if b then meaning_of n.worker (log_of (sai
 pub record InRun (settings : Settings) (r : TheRun) : Type 0 where
   pub proper : IsProper settings r.inputs
   pub state : r.state ≡ after_inputs (after_starts settings) r.inputs
-  pub behind : state_at settings r.entries ≡ r.state
+  pub following : state_at settings r.entries ≡ r.state
 
 follow-more : (s : State) (es : List Entry) (e : Entry) → all_may_follow s es ≡ true → may_follow (after_inputs s es) e ≡ true → all_may_follow s (es ++ e ∷ []) ≡ true
 follow-more s [] e a b = and b refl
@@ -152,7 +152,7 @@ Follows s (Some e) = may_follow s e ≡ true
 
 in_run-with : (settings : Settings) (r : TheRun) (n : News) (o : Option Entry) → InRun settings r → Follows r.state o
     → InRun settings (record { entries = entries_with o r.entries r.state; state = state_with o r.state; inputs = inputs_with o r.inputs; taken = r.taken ++ n ∷ [] })
-in_run-with settings r n None i h = record { proper = i.proper; state = i.state; behind = i.behind }
+in_run-with settings r n None i h = record { proper = i.proper; state = i.state; following = i.following }
 in_run-with settings r n (Some e) i h = record {
   proper = record {
     mode = i.proper.mode;
@@ -162,7 +162,7 @@ in_run-with settings r n (Some e) i h = record {
     follow = follow-more (after_starts settings) r.inputs e i.proper.follow (ap (λ (s : State). may_follow s e) (sym i.state) ∙ h);
   };
   state = ap (λ (s : State). after_input s e) i.state ∙ sym (after_input-more (after_starts settings) r.inputs e);
-  behind = state-more settings r.entries e (outputs r.state e) (ap (λ (s : State). may_follow s e) i.behind ∙ h) ∙ ap (λ (s : State). settled (after_entries (after_effect s e) (outputs r.state e))) i.behind;
+  following = state-more settings r.entries e (outputs r.state e) (ap (λ (s : State). may_follow s e) i.following ∙ h) ∙ ap (λ (s : State). settled (after_entries (after_effect s e) (outputs r.state e))) i.following;
 }
 
 means-follows : (s : State) (w : ℕ) (n : What) (o : Option Entry) → Means s w n o → Follows s o
@@ -184,7 +184,7 @@ in_run-all settings (n ∷ ns) r i = in_run-all settings ns (after_news r n) (in
 
 -- whatever the news, they make such a run
 pub in_run : (settings : Settings) → IsProper settings [] → (taken : List News) → InRun settings (run_of settings taken)
-in_run settings p taken = in_run-all settings taken (begun_run settings) (record { proper = p; state = refl; behind = refl })
+in_run settings p taken = in_run-all settings taken (begun_run settings) (record { proper = p; state = refl; following = refl })
 
 pub run-more : (settings : Settings) (taken : List News) (n : News) → run_of settings (taken ++ n ∷ []) ≡ after_news (run_of settings taken) n
 run-more settings taken n = fold-append after_news (begun_run settings) taken (n ∷ [])

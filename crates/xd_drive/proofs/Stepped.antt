@@ -37,7 +37,7 @@ use Rattle.xd_drive.proofs.Turns.{bounded, entries-added, heard_by, step-agrees,
 
 -- the state of a session is the one of the run that it stands for
 pub state-is : (s : SessionSeen) (taken : List News) → IsProper s.settings [] → StandsFor taken s → state_of s ≡ (run_of s.settings taken).state
-state-is s taken p st = ap (state_at s.settings) st.entries ∙ (in_run s.settings p taken).behind
+state-is s taken p st = ap (state_at s.settings) st.entries ∙ (in_run s.settings p taken).following
 
 new_ones : (old more new : List Entry) → new ≡ old ++ more → take (length new - length old) (drop (length old) new) ≡ more
 new_ones old more new is =
@@ -76,8 +76,8 @@ module _ (s0 s1 : SessionSeen) (taken : List News) (n : News) (st0 : StandsFor t
     follows-before r f = follows-same r s0.settings j.settings s0.entries (take from j.entries.items) (sym (settings_are ∙ same))
         (sym (ap (λ (k : ℕ). take k j.entries.items) first ∙ ap (take (length s0.entries)) entries_are ∙ old_ones s0.entries more s1.entries entries-more)) f
 
-    pub follows-behind : (r : Reporter) → Follows r (after_entries (no_one j.settings) (take to j.entries.items)) → Follows r (after_entries (no_one s1.settings) s1.entries)
-    follows-behind r f = follows-same r j.settings s1.settings (take to j.entries.items) s1.entries settings_are
+    pub follows-following : (r : Reporter) → Follows r (after_entries (no_one j.settings) (take to j.entries.items)) → Follows r (after_entries (no_one s1.settings) s1.entries)
+    follows-following r f = follows-same r j.settings s1.settings (take to j.entries.items) s1.entries settings_are
         (ap (λ (k : ℕ). take k j.entries.items) last ∙ ap (take (length s1.entries)) entries_are ∙ take_all (length s1.entries) s1.entries (omega arith)) f
 
 pub tells-as : (shown : Bool) (es fs : List Entry) (a b : List ℕ) (old new : HubScene) → es ≡ fs → a ≡ b → TellsEntries shown es a old new → TellsEntries shown fs b old new
@@ -185,8 +185,8 @@ module _ (s : SessionSeen) (proper : IsProper s.settings []) (n : News) (old mid
       stands-with : (t : List News) → StandsFor t s → StandsFor (taken_with s.settings t n) s1
       stands-with t k = subst (λ (x : List News). StandsFor x s1) (sym (taken-is true t k on)) (stands t k)
 
-      behind : Agrees (state_of s1).books (marks_after es (heard_by n old.marks))
-      behind =
+      following : Agrees (state_of s1).books (marks_after es (heard_by n old.marks))
+      following =
           let p1 : IsProper s1.settings [] = subst (λ (x : Settings). IsProper x []) (sym same) proper in
           subst (λ (x : State). Agrees x.books (marks_after es (heard_by n old.marks))) (sym (state-is s1 (taken ++ n ∷ []) p1 (stands taken st) ∙ ap (λ (x : Settings). (run_of x (taken ++ n ∷ [])).state) same))
           (step-agrees s.settings proper slots old.marks taken n room (bounded s.settings proper taken) (agrees-run taken st) (on-run taken st))
@@ -196,7 +196,7 @@ module _ (s : SessionSeen) (proper : IsProper s.settings []) (n : News) (old mid
           let p1 : IsProper s1.settings [] = subst (λ (x : Settings). IsProper x []) (sym same) proper in
           possible-both slots mid.marks es (ending true (state_of s1).books) (tellable slots refl taken st)
           (ending-possible s1.settings (taken ++ n ∷ []) slots (state_of s1).books (marks_after es mid.marks) p1 (ap (λ (x : State). x.books) (state-is s1 (taken ++ n ∷ []) p1 (stands taken st)))
-          (subst (λ (f : ℕ → Marks). Agrees (state_of s1).books (marks_after es f)) (sym marks-are) behind))
+          (subst (λ (f : ℕ → Marks). Agrees (state_of s1).books (marks_after es f)) (sym marks-are) following))
 
       pub told : TellsEntries true es lines mid new → (m : News) × TakesNews m Whole s s1 old new
       told t = (
@@ -210,7 +210,7 @@ module _ (s : SessionSeen) (proper : IsProper s.settings []) (n : News) (old mid
             record {
               entries = entries-more s s1 taken n st (stands taken st) same;
               performed = subst (λ (x : Option (List Entry)). Performs es x new.starts old.calls new.calls) starts (subst (λ (x : Option (List Entry)). Performs es mid.starts new.starts x new.calls) calls t.performed);
-              agrees = subst (λ (f : ℕ → Marks). Agrees (state_of s1).books f) (sym (fun_ext t.marks ∙ ap (marks_after es) marks-are)) behind;
+              agrees = subst (λ (f : ℕ → Marks). Agrees (state_of s1).books f) (sym (fun_ext t.marks ∙ ap (marks_after es) marks-are)) following;
               started = λ w. ap (λ (x : Marks). x.started) (t.marks w) ∙ started-by es mid.marks w ∙ ap (λ (x : Marks). x.started || was_started w es) (heard w);
               shows = subst (λ (x : Option Sunk). ShowsLines true lines x new.sunk) sunk t.shows;
             },

@@ -20,7 +20,7 @@ use Rattle.xd_ledger.specs.Histories.{first_starts, starts_from}
 use Rattle.xd_report.specs.declared.counts.Counts.{Counts}
 use Rattle.xd_report.specs.Blocks.{block_of, blocks_from}
 use Rattle.xd_report.specs.Lines.{last_of_slot, lines_from, lines_of, replacing, run_lines}
-use Rattle.xd_report.specs.StopLine.{line_of_stop, refusal, stop_line}
+use Rattle.xd_report.specs.StopLine.{line_of_stop, refusal}
 use Rattle.xd_report.specs.Summary.{counted, counted_from, counts, summary_text}
 use Rattle.xd_report.specs.Tests.{mode_of}
 use Rattle.xd_report.specs.Text.{run_tail, run_text, tail_text, text_of}
@@ -105,63 +105,63 @@ refusal-silent w (Shutdown v ∷ ys) h = absurd (differ h)
 -- after others
 
 module _ (ys : List Entry) (h : list_all silent ys ≡ true) where
-  after_effect-behind : (s : State) (xs : List Entry) → after_entries s (xs ++ ys) ≡ after_entries s xs
-  after_effect-behind s [] = after_effect-silent s ys h
-  after_effect-behind s (x ∷ xs) = after_effect-behind (after_entry s x) xs
+  after_effect-following : (s : State) (xs : List Entry) → after_entries s (xs ++ ys) ≡ after_entries s xs
+  after_effect-following s [] = after_effect-silent s ys h
+  after_effect-following s (x ∷ xs) = after_effect-following (after_entry s x) xs
 
-  pub lines-behind : (s : State) (xs : List Entry) → lines_from s (xs ++ ys) ≡ lines_from s xs
-  lines-behind s [] = lines-silent s ys h
-  lines-behind s (x ∷ xs) = ap (λ (l : List ℕ). lines_of (reached s x) x ++ l) (lines-behind (after_entry s x) xs)
+  pub lines-following : (s : State) (xs : List Entry) → lines_from s (xs ++ ys) ≡ lines_from s xs
+  lines-following s [] = lines-silent s ys h
+  lines-following s (x ∷ xs) = ap (λ (l : List ℕ). lines_of (reached s x) x ++ l) (lines-following (after_entry s x) xs)
 
-  blocks-behind : (s : State) (xs : List Entry) → blocks_from s (xs ++ ys) ≡ blocks_from s xs
-  blocks-behind s [] = blocks-silent s ys h
-  blocks-behind s (x ∷ xs) = ap (λ (l : List ℕ). block_of (reached s x) x ++ l) (blocks-behind (after_entry s x) xs)
+  blocks-following : (s : State) (xs : List Entry) → blocks_from s (xs ++ ys) ≡ blocks_from s xs
+  blocks-following s [] = blocks-silent s ys h
+  blocks-following s (x ∷ xs) = ap (λ (l : List ℕ). block_of (reached s x) x ++ l) (blocks-following (after_entry s x) xs)
 
-  counted-behind : (s : State) (xs : List Entry) (n : Counts) → counted_from s (xs ++ ys) n ≡ counted_from s xs n
-  counted-behind s [] n = counted-silent s ys n h
-  counted-behind s (x ∷ xs) n = counted-behind (after_entry s x) xs (counted (reached s x) x n)
+  counted-following : (s : State) (xs : List Entry) (n : Counts) → counted_from s (xs ++ ys) n ≡ counted_from s xs n
+  counted-following s [] n = counted-silent s ys n h
+  counted-following s (x ∷ xs) n = counted-following (after_entry s x) xs (counted (reached s x) x n)
 
-  refusal-behind : (w : ℕ) (xs : List Entry) → refusal w (xs ++ ys) ≡ refusal w xs
-  refusal-behind w [] = refusal-silent w ys h
-  refusal-behind w (Refused v x ∷ xs) = ap (λ (l : List ℕ). if v == w then x else l) (refusal-behind w xs)
-  refusal-behind w (Kill v ∷ xs) = refusal-behind w xs
-  refusal-behind w (Over how ∷ xs) = refusal-behind w xs
-  refusal-behind w (Ready v ∷ xs) = refusal-behind w xs
-  refusal-behind w (Collected v g ∷ xs) = refusal-behind w xs
-  refusal-behind w (Done v i u m o ∷ xs) = refusal-behind w xs
-  refusal-behind w (Back v is ∷ xs) = refusal-behind w xs
-  refusal-behind w (Finished v ∷ xs) = refusal-behind w xs
-  refusal-behind w (Down v c o ∷ xs) = refusal-behind w xs
-  refusal-behind w (NotStarted v ∷ xs) = refusal-behind w xs
-  refusal-behind w (Start v slot ∷ xs) = refusal-behind w xs
-  refusal-behind w (Run v is ∷ xs) = refusal-behind w xs
-  refusal-behind w (RunAll v ∷ xs) = refusal-behind w xs
-  refusal-behind w (Steal v is ∷ xs) = refusal-behind w xs
-  refusal-behind w (Shutdown v ∷ xs) = refusal-behind w xs
+  refusal-following : (w : ℕ) (xs : List Entry) → refusal w (xs ++ ys) ≡ refusal w xs
+  refusal-following w [] = refusal-silent w ys h
+  refusal-following w (Refused v x ∷ xs) = ap (λ (l : List ℕ). if v == w then x else l) (refusal-following w xs)
+  refusal-following w (Kill v ∷ xs) = refusal-following w xs
+  refusal-following w (Over how ∷ xs) = refusal-following w xs
+  refusal-following w (Ready v ∷ xs) = refusal-following w xs
+  refusal-following w (Collected v g ∷ xs) = refusal-following w xs
+  refusal-following w (Done v i u m o ∷ xs) = refusal-following w xs
+  refusal-following w (Back v is ∷ xs) = refusal-following w xs
+  refusal-following w (Finished v ∷ xs) = refusal-following w xs
+  refusal-following w (Down v c o ∷ xs) = refusal-following w xs
+  refusal-following w (NotStarted v ∷ xs) = refusal-following w xs
+  refusal-following w (Start v slot ∷ xs) = refusal-following w xs
+  refusal-following w (Run v is ∷ xs) = refusal-following w xs
+  refusal-following w (RunAll v ∷ xs) = refusal-following w xs
+  refusal-following w (Steal v is ∷ xs) = refusal-following w xs
+  refusal-following w (Shutdown v ∷ xs) = refusal-following w xs
 
-  stop-behind : (mode : ModeKind) (xs : List Entry) (how : Option RunStop) → line_of_stop mode (xs ++ ys) how ≡ line_of_stop mode xs how
-  stop-behind mode xs None = refl
-  stop-behind mode xs (Some Completed) = refl
-  stop-behind mode xs (Some (MaxFail count)) = refl
-  stop-behind mode xs (Some (Restarts w limit)) = refl
-  stop-behind mode xs (Some (Unequal w other place)) = refl
-  stop-behind mode xs (Some (CollectError w)) = ap (λ (l : List ℕ). Rattle.xd_report.specs.StopLine.refused_line mode w l) (refusal-behind w xs)
-  stop-behind mode xs (Some OutFault) = refl
+  stop-following : (mode : ModeKind) (xs : List Entry) (how : Option RunStop) → line_of_stop mode (xs ++ ys) how ≡ line_of_stop mode xs how
+  stop-following mode xs None = refl
+  stop-following mode xs (Some Completed) = refl
+  stop-following mode xs (Some (MaxFail count)) = refl
+  stop-following mode xs (Some (Restarts w limit)) = refl
+  stop-following mode xs (Some (Unequal w other place)) = refl
+  stop-following mode xs (Some (CollectError w)) = ap (λ (l : List ℕ). Rattle.xd_report.specs.StopLine.refused_line mode w l) (refusal-following w xs)
+  stop-following mode xs (Some OutFault) = refl
 
-  pub tail-behind : (x : Settings) (xs : List Entry) → run_tail x (xs ++ ys) ≡ run_tail x xs
-  tail-behind x xs =
-      let blocks = blocks-behind (no_one x) xs in
-      let state : state_at x (xs ++ ys) ≡ state_at x xs = ap settled (after_effect-behind (no_one x) xs) in
+  pub tail-following : (x : Settings) (xs : List Entry) → run_tail x (xs ++ ys) ≡ run_tail x xs
+  tail-following x xs =
+      let blocks = blocks-following (no_one x) xs in
+      let state : state_at x (xs ++ ys) ≡ state_at x xs = ap settled (after_effect-following (no_one x) xs) in
       let stops : line_of_stop x.mode (xs ++ ys) (state_at x (xs ++ ys)).books.stop ≡ line_of_stop x.mode xs (state_at x xs).books.stop =
-      stop-behind x.mode xs (state_at x (xs ++ ys)).books.stop ∙ ap (λ (s : State). line_of_stop x.mode xs s.books.stop) state in
-      let sums : summary_text (counts x (xs ++ ys)) ≡ summary_text (counts x xs) = ap summary_text (counted-behind (no_one x) xs (record { failed = 0; passed = 0; skipped = 0 })) in
+      stop-following x.mode xs (state_at x (xs ++ ys)).books.stop ∙ ap (λ (s : State). line_of_stop x.mode xs s.books.stop) state in
+      let sums : summary_text (counts x (xs ++ ys)) ≡ summary_text (counts x xs) = ap summary_text (counted-following (no_one x) xs (record { failed = 0; passed = 0; skipped = 0 })) in
       join blocks stops sums
     where
       join : {b b' c c' d d' : List ℕ} → b ≡ b' → c ≡ c' → d ≡ d' → b ++ (c ++ (d ++ 10 ∷ [])) ≡ b' ++ (c' ++ (d' ++ 10 ∷ []))
       join p q r = cc
 
-  pub text-behind : (x : Settings) (xs : List Entry) → run_text x (xs ++ ys) ≡ run_text x xs
-  text-behind x xs = ap (λ (l : List ℕ). l ++ run_tail x (xs ++ ys)) (lines-behind (no_one x) xs) ∙ ap (λ (l : List ℕ). run_lines x xs ++ l) (tail-behind x xs)
+  pub text-following : (x : Settings) (xs : List Entry) → run_text x (xs ++ ys) ≡ run_text x xs
+  text-following x xs = ap (λ (l : List ℕ). l ++ run_tail x (xs ++ ys)) (lines-following (no_one x) xs) ∙ ap (λ (l : List ℕ). run_lines x xs ++ l) (tail-following x xs)
 
 -- the end of a journal
 

@@ -25,7 +25,7 @@ use Rattle.xd_drive.specs.Going.{entries_added, added_by}
 use Rattle.xd_drive.specs.Marks.{Marks, marked_heard}
 use Rattle.xd_drive.specs.Performing.{marks_after, marks_after_entry, all_possible, is_start_of, possible}
 use Rattle.xd_drive.proofs.Bounds.{Bounded, bounded-input}
-use Rattle.xd_drive.proofs.Heard.{agrees-meant, agrees-silent, members-behind}
+use Rattle.xd_drive.proofs.Heard.{agrees-meant, agrees-silent, members-following}
 use Rattle.xd_drive.proofs.Outs.{AllGo, Plain, all-go, bounded-all, follow, kill-goes}
 use Rattle.xd_drive.proofs.Runs.{Follows, InRun, Lawful, Means, in_run, in_run-next, input-follows, input-means, lawful, run-more}
 
@@ -71,7 +71,7 @@ bounded-settled settings u b = record { settings_are = b.settings_are; sizes = b
 slots-low : (settings : Settings) (s : State) (e : Entry) → may_follow s e ≡ true → Tidy s → Bounded settings s → (w : ℕ) → is_active w s.books ≡ true → slot_of w (after_effect s e).books < settings.workers
 slots-low settings s e h d b w a =
     let t = tidy-input s e h d in
-    let k = members-behind s e h in
+    let k = members-following s e h in
     let member : is_member w (after_effect s e).books.members ≡ true = k.members w ∙ has-member w (λ m. m.active) s.books.members a in
     subst (λ (x : Settings). slot_of w (after_effect s e).books < x.workers) (bounded-input settings s e h b).settings_are (t.members.below w member)
 
@@ -102,7 +102,7 @@ pub outs-go : (settings : Settings) (slots : ℕ) (marks : ℕ → Marks) (s : S
     → AllGo slots marks (outputs s e) (after_entries (after_effect s e) (outputs s e))
 outs-go settings slots marks s (Down w c o) l h d b a u =
     let f = follow s (Down w c o) settings.workers h (low settings slots marks s (Down w c o) l h d b a) in
-    let k = members-behind s (Down w c o) h in
+    let k = members-following s (Down w c o) h in
     outs-kill settings slots marks s (Down w c o) l h d b a w f.rest f.outs
     (k.members w ∙ has-member w (λ m. m.active) s.books.members h)
     (k.active w ∙ ap (λ (q : Bool). is_active w s.books && not q) (same_number w) ∙ and-no (is_active w s.books))

@@ -42,7 +42,7 @@ NotesNews (Broken count) s_old s_new old new before after = after ≡ before
 -- Example: gw0 dies and gw1 replaces it: the lines of both were handed on, and gw1 was not started.
 pub record IsBetween (settings : Settings) (es : List Entry) (place : ℕ) (old m : HubScene) : Type 0 where
   pub called : ℕ
-  pub ahead : called ≤ place
+  pub preceding : called ≤ place
   pub performed : Performs (take called es) old.starts m.starts old.calls m.calls
   pub told : ℕ
   pub with_it : place < told

@@ -1,5 +1,5 @@
 // One piece of news.
-ghost use Rattle.std.specs.Prelude.{◌≡◌, ◌≤◌, ℕ, List, [], ◌∷◌, ◌++◌, length, take, true, false, Ok, IfOk, IfSome, OnOk};
+ghost use Rattle.std.specs.Prelude.{◌≡◌, ◌≤◌, ℕ, List, [], ◌∷◌, ◌++◌, length, take, true, false, Ok, IfOk, OnOk};
 ghost use Rattle.xd_edge.specs.Faults.{Counted};
 ghost use Rattle.xd_journal.specs.declared.news.News.{News};
 ghost use Rattle.xd_ledger.specs.Proper.{IsProper};

@@ -68,8 +68,8 @@ module _ (f mid g : ℕ → Option ℕ) (n a d : ℕ) (forward : Forward f) (apa
     | inr w ↦ forward q b w.0
   ]
 
-  behind : (c : ℕ) → a < c → IsSome (f c) → (c ≡ n + 1 → ⊥) → d + 1 < c
-  behind c lt is off = elim (cases_lt n c) [
+  following : (c : ℕ) → a < c → IsSome (f c) → (c ≡ n + 1 → ⊥) → d + 1 < c
+  following c lt is off = elim (cases_lt n c) [
     | inr le ↦ absurd (none_between c lt le is)
     | inl past ↦ elim (cases_lt (n + 1) c) [
       | inr le ↦ absurd (off (omega arith))
@@ -77,8 +77,8 @@ module _ (f mid g : ℕ → Option ℕ) (n a d : ℕ) (forward : Forward f) (apa
     ]
   ]
 
-  ahead : (q : ℕ) (b : ℕ) → f q ≡ Some b → q < a → (q ≡ a → ⊥) → b + 1 < a
-  ahead q b is lt away = elim (cases_lt a n) [
+  preceding : (q : ℕ) (b : ℕ) → f q ≡ Some b → q < a → (q ≡ a → ⊥) → b + 1 < a
+  preceding q b is lt away = elim (cases_lt a n) [
     | inl less ↦ apart q b a is lt (ap is_some (starts less))
     | inr le ↦ let z = free q b is (omega arith) in elim (cases_lt (b + 1) n) [
       | inl y ↦ omega arith
@@ -90,10 +90,10 @@ module _ (f mid g : ℕ → Option ℕ) (n a d : ℕ) (forward : Forward f) (apa
   apart_from q b c e is lt at = elim (which q b is) [
     | inl w ↦ elim (which c e at) [
       | inl v ↦ absurd (let x = w.0 in let y = v.0 in omega arith)
-      | inr v ↦ let x = w.1 in let z = behind c (let y = w.0 in omega arith) (ap is_some v.0) v.1 in omega arith
+      | inr v ↦ let x = w.1 in let z = following c (let y = w.0 in omega arith) (ap is_some v.0) v.1 in omega arith
     ]
     | inr w ↦ elim (which c e at) [
-      | inl v ↦ let x = v.0 in let z = ahead q b w.0 (omega arith) w.2 in omega arith
+      | inl v ↦ let x = v.0 in let z = preceding q b w.0 (omega arith) w.2 in omega arith
       | inr v ↦ apart q b c w.0 lt (ap is_some v.0)
     ]
   ]

@@ -1,7 +1,7 @@
 -- A message means one word, and one that means a word is read without a fault.
 use Rattle.std.proofs.Common.{◌≡◌, ℕ, ◌+◌, ◌<◌, ◌≤◌, List, [], Bool, true, false, Some, sym, ap, subst, ◌∙◌, arith}
 use Rattle.std.proofs.lemmas.List.{append-nil}
-use Rattle.xd_value.specs.Tree.{Tree, text}
+use Rattle.xd_value.specs.Tree.{Tree, is_text, text}
 use Rattle.xd_value.specs.Payload.{IsPayload}
 use Rattle.xd_value.proofs.OneAnswer.{no_fault, one_payload}
 use Rattle.xd_frame.specs.declared.kind.Kind.{Kind}
@@ -9,7 +9,7 @@ use Rattle.xd_frame.specs.declared.kind.Kind.TheVariants as kind
 use Rattle.xd_frame.specs.Message.{MessageView}
 use Rattle.xd_factory.specs.declared.faults.SideFault.{SideFault}
 use Rattle.xd_factory.specs.declared.faults.SideFault.TheVariants as fault
-use Rattle.xd_factory.specs.Said.{Said, Exec, Data, Close, Means, Misread, SaysBy, is_read, is_text, names_of}
+use Rattle.xd_factory.specs.Said.{Said, Exec, Data, Close, Means, Misread, SaysBy, is_read, names_of}
 use Rattle.xd_factory.specs.Table.{Refused, opened_count}
 
 one_value : (v w : Tree) (b : List ℕ) → IsPayload v b → IsPayload w b → v ≡ w

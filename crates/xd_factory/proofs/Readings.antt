@@ -2,7 +2,7 @@
 use Rattle.std.proofs.Common.{◌≡◌, ℕ, ◌≤◌, List, [], ◌∷◌, true, false, Some, None, Result, Ok, Err, refl, sym, ap, subst, ◌∙◌, ◌++◌}
 use Rattle.std.specs.Prelude.{◌==◌}
 use Rattle.std.proofs.lemmas.Bool.{and_parts}
-use Rattle.xd_value.specs.Tree.{Tree, text}
+use Rattle.xd_value.specs.Tree.{Tree, is_text, text}
 use Rattle.xd_value.specs.View.{view}
 use Rattle.xd_value.specs.Channels.{channels}
 use Rattle.xd_value.specs.Payload.{IsPayload, FirstFault, IsValue, IsRefusal, IsFault as IsLoadFault}
@@ -18,7 +18,7 @@ use Rattle.xd_factory.specs.declared.word.Word.TheVariants as word
 use Rattle.xd_factory.specs.declared.faults.SideFault.{SideFault}
 use Rattle.xd_factory.specs.declared.faults.SideFault.TheVariants as fault
 use Rattle.xd_factory.specs.Numbers.{is_in}
-use Rattle.xd_factory.specs.Said.{Exec, Data, Close, Misread, IsMisread, IsFault, is_text, is_unnumbered, is_numbered, is_read}
+use Rattle.xd_factory.specs.Said.{Exec, Data, Close, Misread, IsMisread, IsFault, is_unnumbered, is_numbered, is_read}
 use Rattle.xd_factory.specs.Reads.{ValueReads, TextReads, MessageReads}
 use Rattle.xd_factory.proofs.Bounds.{payload_small, both_small, one_small}
 

@@ -1,6 +1,6 @@
 -- What reading a message or a payload answers: what is read, that only it is, why not, and that a fault is told.
 use Rattle.std.specs.Prelude.{◌≡◌, ◌≤◌, ℕ, List, true, false, Result, Ok, Err, IfOk, IfErr}
-use Rattle.xd_value.specs.Tree.{Tree, text}
+use Rattle.xd_value.specs.Tree.{Tree, is_text, text}
 use Rattle.xd_value.specs.View.{view}
 use Rattle.xd_value.specs.Payload.{IsPayload, FirstFault}
 use Rattle.xd_value.specs.declared.value.Value.{Value}
@@ -10,7 +10,7 @@ use Rattle.xd_factory.specs.declared.word.Word.{Word}
 use Rattle.xd_factory.specs.declared.faults.SideFault.{SideFault}
 use Rattle.xd_factory.specs.declared.faults.SideFault.TheVariants as fault
 use Rattle.xd_factory.specs.Numbers.{is_in}
-use Rattle.xd_factory.specs.Said.{Said, Means, Misread, IsMisread, IsFault, said_of, mentions, is_text}
+use Rattle.xd_factory.specs.Said.{Said, Means, Misread, IsMisread, IsFault, said_of, mentions}
 
 -- the value read is this one, or memory was refused
 abbrev pub IsReadAs : Tree → Result Value SideFault → Type 0

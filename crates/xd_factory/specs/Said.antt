@@ -1,7 +1,7 @@
 -- What a message says, its payload read, and why it says nothing. After execnet's gateway_base.py. The order of the
 -- faults is a choice of this project.
 use Rattle.std.specs.Prelude.{◌≡◌, ℕ, ◌==◌, ◌&&◌, List, [], ◌∷◌, ◌++◌, Bool, true, false, Option, Some, None, Result, Ok, Err}
-use Rattle.xd_value.specs.Tree.{Tree, none, truth, int, bytes, text, list, tuple, set, frozenset, dict, channel}
+use Rattle.xd_value.specs.Tree.{Tree, is_text, text}
 use Rattle.xd_value.specs.View.{view}
 use Rattle.xd_value.specs.Channels.{channels}
 use Rattle.xd_value.specs.Payload.{IsPayload, FirstFault}
@@ -64,20 +64,6 @@ is_read kind.Reconfigure = false
 is_read kind.Terminate = false
 is_read kind.Close = false
 is_read kind.LastMessage = false
-
--- the value is a text
-abbrev pub is_text : Tree → Bool
-is_text (text cs) = true
-is_text none = false
-is_text (truth b) = false
-is_text (int z) = false
-is_text (bytes bs) = false
-is_text (list ts) = false
-is_text (tuple ts) = false
-is_text (set ts) = false
-is_text (frozenset ts) = false
-is_text (dict ps) = false
-is_text (channel n) = false
 
 -- the payload of the message is read, and this is its first fault
 pub record BadPayload (m : MessageView) (what : LoadWhat) : Type 0 where

@@ -1,11 +1,10 @@
 // The table of the channels of one side.
-ghost use Rattle.std.specs.Prelude.{[], ◌≡◌, ◌≤◌, ◌<◌, ◌+◌, ◌==◌, ℕ, suc, IfOk, OnErr, OnOk, IsErrOf, IsSome, Bool, true, false, Option, None, if◌then◌else◌, MatchResult, length};
+ghost use Rattle.std.specs.Prelude.{[], ◌≡◌, ◌≤◌, ◌<◌, ◌+◌, ◌==◌, ℕ, IsSome, true, false, Option, None, if◌then◌else◌, length};
 ghost use Rattle.std.specs.Ordering.{nat_cmp};
 ghost use Rattle.std.specs.BTreeMap as tree;
 ghost use Rattle.std.specs.List.Sorted.{IsStrictlySortedBy};
-ghost use Rattle.xd_value.specs.Tree.{Tree};
 ghost use Rattle.xd_factory.specs.Numbers.{is_known, is_mine, is_in, first_number};
-ghost use Rattle.xd_factory.specs.Slot.{Unseen, Gone, is_here, is_new, is_seen, named_slot, left_slot};
+ghost use Rattle.xd_factory.specs.Slot.{Unseen, is_here, left_slot};
 
 mod link;
 mod naming;

@@ -1,8 +1,8 @@
 // What a message says, its payload read.
 ghost use Rattle.std.specs.Prelude.{◌≡◌, ◌≤◌, ◌==◌, ◌&&◌, false, MatchOption};
-ghost use Rattle.xd_value.specs.Tree.{text};
+ghost use Rattle.xd_value.specs.Tree.{is_text, text};
 ghost use Rattle.xd_value.specs.View.{view};
-ghost use Rattle.xd_factory.specs.Said.{is_numbered, is_text};
+ghost use Rattle.xd_factory.specs.Said.{is_numbered};
 ghost use Rattle.xd_factory.specs.Reads.{MessageReads, TextReads, ValueReads};
 
 use crate::SideFault;

@@ -85,9 +85,9 @@ nothing : messages [] ≡ []
 unfolding parts parts_within
 nothing = refl
 
-nothing_behind : left_over [] ≡ []
+nothing_after : left_over [] ≡ []
 unfolding parts parts_within
-nothing_behind = refl
+nothing_after = refl
 
 abbrev err : FrameFault → Result (Unit {0}) FrameFault
 err f = Err f
@@ -162,7 +162,7 @@ module _ (s t : FramerView) (before after : Spring) (waits : s.waiting ≡ []) (
       let says = front_says all (Ok (Some h)) e in
       let past : drop (9 + h.length) all ≡ [] = nil_past (9 + h.length) all size in
       let one : messages all ≡ m ∷ [] = says.0 ∙ (ap (λ (l : List ℕ). message_of h all ∷ messages l) past ∙ (ap (λ (l : List MessageView). message_of h all ∷ l) nothing ∙ ap (λ (x : MessageView). x ∷ []) (sym is))) in
-      let last : left_over all ≡ [] = says.1 ∙ (ap left_over past ∙ nothing_behind) in
+      let last : left_over all ≡ [] = says.1 ∙ (ap left_over past ∙ nothing_after) in
       let u : FramerView = record { waiting = m ∷ []; held = []; failed = false; cut = false } in
       next_moves u t (given ++ piece) taken (m ∷ []) (ap (λ (l : List MessageView). m ∷ l) (sym none_waits)) none ok
       (feed_takes s u given piece taken g.failed g.readable (sym one ∙ ap (λ (l : List MessageView). l ++ messages all) (sym waits)) (sym last) k)

@@ -21,6 +21,6 @@ CountAfter true before now = now ≡ before
 CountAfter false before now = Rose before now
 
 -- After a fault of the sink it is asked no more, and the count stays.
-abbrev pub CountBehind : Bool → Bool → ℕ → ℕ → Type 0
-CountBehind true broken before now = (broken ≡ true) × (now ≡ before)
-CountBehind false broken before now = CountAfter (not broken) before now
+abbrev pub CountSince : Bool → Bool → ℕ → ℕ → Type 0
+CountSince true broken before now = (broken ≡ true) × (now ≡ before)
+CountSince false broken before now = CountAfter (not broken) before now

@@ -1,7 +1,7 @@
 -- A call by name, as a value: a tuple of a name and a dict of keyword arguments. Commands and events are such calls, as
 -- sendcommand in pytest-xdist's workermanage.py and sendevent in its remote.py make them.
-use Rattle.std.specs.Prelude.{ℕ, Bool, true, false, ◌&&◌, List, Option, Some, None, if◌then◌else◌}
-use Rattle.xd_value.specs.Tree.{Tree, Pairs, text, tuple, dict, no_trees, tree, no_pairs, pair}
+use Rattle.std.specs.Prelude.{ℕ, Bool, true, ◌&&◌, List, Option, Some, None, if◌then◌else◌}
+use Rattle.xd_value.specs.Tree.{Tree, Pairs, is_text, text, tuple, dict, no_trees, tree, no_pairs, pair}
 
 -- a name, with its keyword arguments
 pub record Call : Type 0 where
@@ -11,11 +11,6 @@ pub record Call : Type 0 where
 -- the call of a name with these keyword arguments, as it is written
 abbrev pub call_as_value : List ℕ → Pairs → Tree
 call_as_value name kwargs = tuple (tree (text name) (tree (dict kwargs) no_trees))
-
--- a value is a text
-abbrev pub is_text : Tree → Bool
-is_text (text cs) = true
-is_text _ = false
 
 -- each key is a text, as the names of keyword arguments are in Python
 abbrev pub has_text_keys : Pairs → Bool

@@ -1,6 +1,5 @@
 // A call by name, and its value.
 ghost use Rattle.std.specs.Prelude.{◌≡◌, option_map, IfOk};
-ghost use Rattle.xd_value.specs.Tree.{tree, no_trees};
 ghost use Rattle.xd_value.specs.View.{view, pair_views};
 ghost use Rattle.xd_gateway.specs.Calls.{call_as_value, call_by, call_in, has_text_keys};
 ghost use Rattle.xd_gateway.specs.Words.{IsWord};

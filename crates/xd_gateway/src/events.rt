@@ -1,6 +1,5 @@
 // Events as values.
-ghost use Rattle.std.specs.Prelude.{◌≡◌, Some, IfOk, IsSome, pos, option_and_then};
-ghost use Rattle.xd_value.specs.Tree.{text, int, channel, pair, no_pairs};
+ghost use Rattle.std.specs.Prelude.{◌≡◌, Some, IfOk, IsSome};
 ghost use Rattle.xd_value.specs.View.{view, pair_views};
 ghost use Rattle.xd_gateway.specs.Calls.{Call};
 ghost use Rattle.xd_gateway.specs.Kwargs.{both};

@@ -92,11 +92,11 @@ there n (Some d ∷ cs) (suc k) c f g a e h =
     let it = there (suc n) cs k c f g a.1 e h in
     (suc it.0, it.1 ∙ omega arith, ap (λ (l : List AskedOfLink). child_asked d ∷ l) it.2)
 
-behind : (pre xs : List AskedOfLink) (m : ℕ) (g : AskedOfLink → AskedOfLink) → changed (length pre + m) g (pre ++ xs) ≡ pre ++ changed m g xs
-behind [] xs m g = ap (λ (k : ℕ). changed k g xs) (omega arith)
-behind (p ∷ pre) xs m g =
+following : (pre xs : List AskedOfLink) (m : ℕ) (g : AskedOfLink → AskedOfLink) → changed (length pre + m) g (pre ++ xs) ≡ pre ++ changed m g xs
+following [] xs m g = ap (λ (k : ℕ). changed k g xs) (omega arith)
+following (p ∷ pre) xs m g =
     let next : length (p ∷ pre) + m ≡ suc (length pre + m) = omega arith in
-    ap (λ (k : ℕ). changed k g (p ∷ (pre ++ xs))) next ∙ ap (λ (l : List AskedOfLink). p ∷ l) (behind pre xs m g)
+    ap (λ (k : ℕ). changed k g (p ∷ (pre ++ xs))) next ∙ ap (λ (l : List AskedOfLink). p ∷ l) (following pre xs m g)
 
 numbered_same : (n : ℕ) (cs : List (Option Child)) (k : ℕ) (f : Child → Child) → ((c : Child) → (f c).link ≡ c.link) → AreNumbered n cs → AreNumbered n (child_changed_at k f cs)
 numbered_same n [] k f h a = tt
@@ -113,7 +113,7 @@ tells_changed (Some b) now next cs k c f h g same does asks at e t =
       with_link c.link h t.0,
       e ∙ ap (option_map (with_link c.link h)) t.1,
       changed_map c.link h g t.0.links does ∙ (ap (changed c.link g) t.2 ∙ (ap (λ (m : ℕ). changed m g (map link_asked b.links ++ children_asked cs)) (it.1 ∙ ap (λ (n : ℕ). n + it.0) (sym (map_length b.links)))
-          ∙ (behind (map link_asked b.links) (children_asked cs) it.0 g ∙ ap (λ (l : List AskedOfLink). map link_asked b.links ++ l) it.2))),
+          ∙ (following (map link_asked b.links) (children_asked cs) it.0 g ∙ ap (λ (l : List AskedOfLink). map link_asked b.links ++ l) it.2))),
       numbered_same (length b.links) cs k f same t.3,
     )
 

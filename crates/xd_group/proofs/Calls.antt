@@ -13,7 +13,7 @@ use Rattle.xd_value.specs.declared.value.Value.{Value}
 use Rattle.xd_value.specs.Canonical.{canonical, dumped}
 use Rattle.xd_value.specs.declared.writing.DumpFault.{DumpFault}
 use Rattle.xd_frame.specs.Message.{MessageView, frame}
-use Rattle.xd_frame.specs.Writing.{CountBehind, WritesMore}
+use Rattle.xd_frame.specs.Writing.{CountSince, WritesMore}
 use Rattle.xd_factory.specs.Numbers.{is_in, is_known}
 use Rattle.xd_factory.specs.Slot.{Unseen, is_here}
 use Rattle.xd_factory.specs.SideTable.{ChannelTable}
@@ -98,7 +98,7 @@ quiet_writes : (b : Bool) (bytes : List ℕ) (s : Option Sunk) → b ≡ true �
 quiet_writes true bytes s h = (refl, refl)
 quiet_writes false bytes s h = absurd (cc h)
 
-quiet_count : (b : Bool) (n : ℕ) → b ≡ true → CountBehind b b n n
+quiet_count : (b : Bool) (n : ℕ) → b ≡ true → CountSince b b n n
 quiet_count true n h = (refl, refl)
 quiet_count false n h = absurd (cc h)
 

@@ -74,8 +74,8 @@ record Placed (which : Fate → Bool) (ws : List ℕ) (fs : List Fate) (w : ℕ)
   was : slice_get fs at ≡ Some fate
   so : which fate ≡ true
 
-behind : (which : Fate → Bool) (x : ℕ) (ws : List ℕ) (g : Fate) (fs : List Fate) (w : ℕ) → Placed which ws fs w → Placed which (x ∷ ws) (g ∷ fs) w
-behind which x ws g fs w p = record { at = suc p.at; fate = p.fate; is = p.is; was = p.was; so = p.so }
+following : (which : Fate → Bool) (x : ℕ) (ws : List ℕ) (g : Fate) (fs : List Fate) (w : ℕ) → Placed which ws fs w → Placed which (x ∷ ws) (g ∷ fs) w
+following which x ws g fs w p = record { at = suc p.at; fate = p.fate; is = p.is; was = p.was; so = p.so }
 
 same_number : (u w : ℕ) → (u == w) ≡ true → u ≡ w
 same_number u w h = grind (arith, nat_tests)
@@ -83,7 +83,7 @@ same_number u w h = grind (arith, nat_tests)
 placed : (which : Fate → Bool) (ws : List ℕ) (fs : List Fate) (w : ℕ) → is_listed w (workers_with which ws fs) ≡ true → Placed which ws fs w
 placed which [] fs w h = absurd (cc h)
 placed which (x ∷ ws) [] w h = absurd (cc h)
-placed which (x ∷ ws) (g ∷ fs) w h = by (λ r. behind which x ws g fs w (placed which ws fs w r)) (which g) refl
+placed which (x ∷ ws) (g ∷ fs) w h = by (λ r. following which x ws g fs w (placed which ws fs w r)) (which g) refl
   where
     here : (is_listed w (workers_with which ws fs) ≡ true → Placed which (x ∷ ws) (g ∷ fs) w) → (b : Bool) → (x == w) ≡ b → which g ≡ true → ((x == w) || is_listed w (workers_with which ws fs)) ≡ true → Placed which (x ∷ ws) (g ∷ fs) w
     here later true e s h = record { at = 0; fate = g; is = ap Some (same_number x w e); was = refl; so = s }

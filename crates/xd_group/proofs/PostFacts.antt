@@ -9,7 +9,7 @@ use Rattle.std.proofs.lemmas.List.Folds.{list_any-append}
 use Rattle.xd_edge.specs.declared.mode.ModeKind.{ModeKind}
 use Rattle.xd_edge.specs.Sink.{Sunk}
 use Rattle.xd_frame.specs.Message.{MessageView, frame}
-use Rattle.xd_frame.specs.Writing.{CountBehind}
+use Rattle.xd_frame.specs.Writing.{CountSince}
 use Rattle.xd_journal.specs.declared.entry.Cause.{Cause}
 use Rattle.xd_journal.specs.declared.entry.Entry.{Entry}
 use Rattle.xd_journal.specs.declared.news.What.{What}
@@ -179,21 +179,21 @@ pub order_keeps : (o : Option MessageView) (l0 l1 : Bool) (a b : GatewaySink) �
 order_keeps None l0 l1 a b x y w e = y ∙ ap (λ (l : GatewaySink). l.broken) w ∙ sym x ∙ e
 order_keeps (Some m) l0 l1 a b x y w e = y ∙ by a.broken b.broken (sym x ∙ e) w.count
   where
-    by : (p q : Bool) → p ≡ true → CountBehind p q a.faults b.faults → q ≡ true
+    by : (p q : Bool) → p ≡ true → CountSince p q a.faults b.faults → q ≡ true
     by true q t c = c.0
     by false q t c = absurd (cc t)
 
 pub close_keeps : (bytes : List ℕ) (l0 l1 : Bool) (a b : GatewaySink) → l0 ≡ a.broken → l1 ≡ b.broken → ClosesSink bytes a b → l0 ≡ true → l1 ≡ true
 close_keeps bytes l0 l1 a b x y w e = y ∙ by a.broken b.broken (sym x ∙ e) w.count
   where
-    by : (p q : Bool) → p ≡ true → CountBehind p q a.faults b.faults → q ≡ true
+    by : (p q : Bool) → p ≡ true → CountSince p q a.faults b.faults → q ≡ true
     by true q t c = c.0
     by false q t c = absurd (cc t)
 
 pub shut_keeps : (l0 l1 : Bool) (a b : GatewaySink) → l0 ≡ a.broken → l1 ≡ b.broken → ClosesNow a b → l0 ≡ true → l1 ≡ true
 shut_keeps l0 l1 a b x y w e = y ∙ by a.broken b.broken (sym x ∙ e) w.count
   where
-    by : (p q : Bool) → p ≡ true → CountBehind p q a.faults b.faults → q ≡ true
+    by : (p q : Bool) → p ≡ true → CountSince p q a.faults b.faults → q ≡ true
     by true q t c = c.0
     by false q t c = absurd (cc t)
 

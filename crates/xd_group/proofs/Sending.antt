@@ -7,7 +7,7 @@ use Rattle.std.proofs.lemmas.Grind.{flat_map-append}
 use Rattle.xd_edge.specs.Faults.{Rose}
 use Rattle.xd_edge.specs.Sink.{Sunk, with_bytes, with_flush, with_close, Printed, PrintedPart}
 use Rattle.xd_frame.specs.Message.{MessageView, frame, frames}
-use Rattle.xd_frame.specs.Writing.{CountBehind, WritesMore}
+use Rattle.xd_frame.specs.Writing.{CountSince, WritesMore}
 use Rattle.xd_remote.specs.Line.{ClosedBy, ClosesMore}
 use Rattle.xd_group.specs.Sent.{HandedOn, SentAs}
 
@@ -74,7 +74,7 @@ now_part (Some s) s1 all more closed w p =
     (first_part (s.bytes ++ take p.0 more) all more p.0 p.1 (ap (λ (t : Sunk). t.bytes ++ take p.0 more) w))
 
 pub sent_more : (b0 b1 closed : Bool) (s0 s1 : Option Sunk) (f0 f1 : ℕ) (ms all : List MessageView) (m : MessageView) → all ≡ ms ++ m ∷ [] → SentAs b0 closed s0 f0 ms
-    → WritesMore b0 b1 (frame m) s0 s1 → CountBehind b0 b1 f0 f1 → f0 ≤ f1 → SentAs b1 closed s1 f1 all
+    → WritesMore b0 b1 (frame m) s0 s1 → CountSince b0 b1 f0 f1 → f0 ≤ f1 → SentAs b1 closed s1 f1 all
 sent_more true true closed s0 s1 f0 f1 ms all m is sent w c l =
     let bytes : frames all ≡ frames ms ++ frame m = ap frames is ∙ open_frames ms m in
     record {
@@ -100,7 +100,7 @@ still_sent : (before after : Bool) (s : Option Sunk) (f : ℕ) (ms : List Messag
 still_sent before after s f ms sent = record { whole = λ e. absurd (cc e); part = sent.part }
 
 pub sent_last : (b0 b1 closed : Bool) (s0 s1 : Option Sunk) (f0 f1 : ℕ) (ms all : List MessageView) (m : MessageView) → all ≡ ms ++ m ∷ [] → SentAs b0 closed s0 f0 ms
-    → ClosesMore b0 b1 (frame m) s0 s1 → CountBehind b0 b1 f0 f1 → f0 ≤ f1 → SentAs b1 true s1 f1 all
+    → ClosesMore b0 b1 (frame m) s0 s1 → CountSince b0 b1 f0 f1 → f0 ≤ f1 → SentAs b1 true s1 f1 all
 sent_last true true closed s0 s1 f0 f1 ms all m is sent w c l = still_sent closed true s1 f1 all (sent_more true true closed s0 s1 f0 f1 ms all m is sent w c l)
 sent_last true false closed s0 s1 f0 f1 ms all m is sent w c l = absurd (let z = w.0 in cc z)
 sent_last false false closed s0 s1 f0 f1 ms all m is sent w c l =
@@ -119,7 +119,7 @@ whole_shut None s1 all closed w p = subst (λ (o : Option Sunk). IfSome o (λ s.
 whole_shut (Some s) s1 all closed w p = subst (λ (o : Option Sunk). IfSome o (λ s. s ≡ record { bytes = all; flushed = length all; closed = true })) (sym p) (ap with_close w)
 
 -- the sink was closed, and took nothing more
-pub sent_shut : (b0 b1 closed : Bool) (s0 s1 : Option Sunk) (f0 f1 : ℕ) (ms : List MessageView) → SentAs b0 closed s0 f0 ms → ClosedBy b0 b1 s0 s1 → CountBehind b0 b1 f0 f1 → f0 ≤ f1 → SentAs b1 true s1 f1 ms
+pub sent_shut : (b0 b1 closed : Bool) (s0 s1 : Option Sunk) (f0 f1 : ℕ) (ms : List MessageView) → SentAs b0 closed s0 f0 ms → ClosedBy b0 b1 s0 s1 → CountSince b0 b1 f0 f1 → f0 ≤ f1 → SentAs b1 true s1 f1 ms
 sent_shut true true closed s0 s1 f0 f1 ms sent w c l = record { whole = λ e. absurd (cc e); part = λ e. (omega (arith, l, (sent.part refl).0), subst (λ (o : Option Sunk). IfSome o (λ s. s.bytes ≡ take (length s.bytes) (frames ms))) (sym w.1) (sent.part refl).1) }
 sent_shut true false closed s0 s1 f0 f1 ms sent w c l = absurd (let z = w.0 in cc z)
 sent_shut false false closed s0 s1 f0 f1 ms sent w c l = record { whole = λ e. whole_shut s0 s1 (frames ms) closed (sent.whole refl) w; part = λ e. absurd (cc e) }

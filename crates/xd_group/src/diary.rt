@@ -1,5 +1,5 @@
 // What a hub was called for and what it gave, and who its workers are.
-ghost use Rattle.std.specs.Prelude.{◌≡◌, ◌<◌, ◌∷◌, ◌++◌, [], ℕ, All, IfOk, OnOk, IfSome, IfNone, Some, None, true, length, slice_get, option_map, option_to_list};
+ghost use Rattle.std.specs.Prelude.{◌≡◌, ◌<◌, ◌∷◌, ◌++◌, [], ℕ, All, IfOk, OnOk, IfSome, IfNone, Some, None, length, slice_get, option_map, option_to_list};
 ghost use Rattle.xd_journal.specs.declared.entry.Entry.TheVariants.{Start};
 ghost use Rattle.xd_note.specs.Noted.{noted};
 ghost use Rattle.xd_group.specs.Fates.{is_linked};

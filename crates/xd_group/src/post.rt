@@ -12,7 +12,7 @@ ghost use Rattle.xd_reader.specs.declared.news.LinkNews.{LinkNews};
 ghost use Rattle.xd_note.specs.Noted.{noted};
 ghost use Rattle.xd_drive.specs.Marks.{is_breach, is_end};
 ghost use Rattle.xd_gateway.specs.Orders.{order_of};
-ghost use Rattle.xd_remote.specs.View.{is_broken, side_of, sink_of};
+ghost use Rattle.xd_remote.specs.View.{is_broken, sink_of};
 ghost use Rattle.xd_group.specs.Heard.{EndsNow, HeardSo, StaysEnded, cause_by, plain_cause, says_send_fault};
 ghost use Rattle.xd_group.specs.Pages.{is_nothing};
 ghost use Rattle.xd_group.specs.Sent.{EndsWhole, HandedOn, SentAs};

@@ -143,9 +143,9 @@ pub times-in_range : (x a n : ℕ) → a ≤ x → x < a + n → times x (range_
 times-in_range x a zero h k = absurd (omega arith)
 times-in_range x a (suc n) h k = grind (arith, nat_tests, times-in_range x (a + 1) n, times-range_above x (a + 1) n)
 
-pub times-behind_range : (x a n : ℕ) → a + n ≤ x → times x (range_with_len a n) ≡ 0
-times-behind_range x a zero h = refl
-times-behind_range x a (suc n) h = grind (arith, nat_tests, times-behind_range x (a + 1) n)
+pub times-after_range : (x a n : ℕ) → a + n ≤ x → times x (range_with_len a n) ≡ 0
+times-after_range x a zero h = refl
+times-after_range x a (suc n) h = grind (arith, nat_tests, times-after_range x (a + 1) n)
 
 -- a list in which nothing stands is empty
 pub empty-of_times : (xs : List ℕ) → ((x : ℕ) → times x xs ≡ 0) → xs ≡ []

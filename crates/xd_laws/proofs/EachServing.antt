@@ -272,8 +272,8 @@ none-said s c x e = ap (λ (k : ModeKind). after_entries s (turned k c (turn_of 
 table-each : (s : State) (c : ModeCall) → Tidy s → s.books.shared ≡ true → InEach s → CallFits s c → (after_entries s (acts_of c s)).books.table ≡ (each_turn c (turn_of s)).table
 table-each s c d h x f = (in_each_rule.agrees s c d h x f).table ∙ ap (λ (k : ModeKind). (turned k c (turn_of s)).table) x.first.first
 
-plan-behind : (s : State) (c : ModeCall) → Tidy s → s.books.shared ≡ true → InEach s → CallFits s c → (after_entries s (acts_of c s)).plan ≡ s.plan
-plan-behind s c d h x f = (in_each_rule.agrees s c d h x f).plan ∙ ap (λ (k : ModeKind). (turned k c (turn_of s)).plan) x.first.first ∙ plan-each c (turn_of s)
+plan-following : (s : State) (c : ModeCall) → Tidy s → s.books.shared ≡ true → InEach s → CallFits s c → (after_entries s (acts_of c s)).plan ≡ s.plan
+plan-following s c d h x f = (in_each_rule.agrees s c d h x f).plan ∙ ap (λ (k : ModeKind). (turned k c (turn_of s)).plan) x.first.first ∙ plan-each c (turn_of s)
 
 joined-waits : (s : State) (w slot : ℕ) → Tidy s → s.books.shared ≡ true → InEach s → CallFits s (Joined w slot) → Awaited s → Awaited (after_entries s (acts_of (Joined w slot) s))
 joined-waits s w slot d h x f o y a =
@@ -294,7 +294,7 @@ joined-waits s w slot d h x f o y a =
       who = one.who;
       active = later.active one.who ∙ one.active;
       untold = untold-outputs one.who s (acts_of c s) (in_each_rule.turns s c d h x f).fit.orderly (plain-acts c s) silent ∙ one.untold;
-      fits = λ e. ap (λ (i : ℕ). among y (slot_items i m.plan)) (later.slots one.who) ∙ ap (λ (p : Plan). among y (slot_items (slot_of one.who s.books) p)) (plan-behind s c d h x f) ∙ mine;
+      fits = λ e. ap (λ (i : ℕ). among y (slot_items i m.plan)) (later.slots one.who) ∙ ap (λ (p : Plan). among y (slot_items (slot_of one.who s.books) p)) (plan-following s c d h x f) ∙ mine;
     }
 
 each-waits : (s : State) (c : ModeCall) → Tidy s → s.books.shared ≡ true → InEach s → CallFits s c → Expects s c → Awaited (after_entries s (acts_of c s))

@@ -1,6 +1,6 @@
 -- The turns of mode each are in order.
-use Rattle.std.proofs.Common.{◌≡◌, ℕ, zero, suc, ◌+◌, ◌-◌, ◌≤◌, ◌<◌, List, [], ◌∷◌, ◌++◌, take, map, Bool, true, false, not, ◌&&◌, refl, ap, sym, ◌∙◌, subst, arith, inl, inr}
-use Rattle.std.specs.Prelude.{◌==◌, fold, sum, slice_index}
+use Rattle.std.proofs.Common.{◌≡◌, ℕ, ◌+◌, ◌-◌, ◌≤◌, ◌<◌, List, [], ◌∷◌, ◌++◌, take, map, Bool, true, false, not, ◌&&◌, refl, ap, sym, ◌∙◌, subst, arith, inl, inr}
+use Rattle.std.specs.Prelude.{◌==◌, sum, slice_index}
 use Rattle.std.specs.List.{range_with_len}
 use Rattle.std.proofs.lemmas.Bool.{cases_order}
 use Rattle.std.proofs.lemmas.Bool.Decides.{nat_tests}
@@ -20,7 +20,7 @@ use Rattle.xd_ledger.proofs.Parts.{parts-apart, parts-within}
 use Rattle.xd_laws.proofs.Logic.{differ, cases_of, split-and, not_true, in_both}
 use Rattle.xd_laws.proofs.Counts.{distinct-of_times, all_among-self, all_among-of, among_of-all_among, among-filter, distinct-filter, among-in_range, bounds-of_range}
 use Rattle.xd_laws.proofs.Rota.{seats_of, seat-among, told-change, told-shut, workers-change}
-use Rattle.xd_laws.proofs.Turns.{plan-plain, Tidy, Good, InRota, in_rota-behind, unshut-of, turn-distinct, good-first, good-more, good-shut}
+use Rattle.xd_laws.proofs.Turns.{plan-plain, Tidy, Good, InRota, in_rota-following, unshut-of, turn-distinct, good-first, good-more, good-shut}
 use Rattle.xd_laws.proofs.Rule.{IsFresh}
 
 -- the items of slots
@@ -70,8 +70,8 @@ record Steady (s : State) (t : Turn) : Type 0 where
   good : Good s t
   same : t.plan ≡ s.plan
 
-slot-behind : (s : State) (t : Turn) (w : ℕ) → Steady s t → slot_items (slot_of w (after_entries s t.acts).books) (after_entries s t.acts).plan ≡ slot_items (slot_of w s.books) s.plan
-slot-behind s t w g =
+slot-following : (s : State) (t : Turn) (w : ℕ) → Steady s t → slot_items (slot_of w (after_entries s t.acts).books) (after_entries s t.acts).plan ≡ slot_items (slot_of w s.books) s.plan
+slot-following s t w g =
     let m = after_entries s t.acts in
     ap (λ (k : ℕ). slot_items k m.plan) (g.good.kin.slots_same w) ∙ ap (λ (p : Plan). slot_items (slot_of w s.books) p) (g.good.plan ∙ g.same)
 
@@ -81,11 +81,11 @@ steady-run_all s w t e a g k =
     let m = after_entries s t.acts in
     let slot = slot_of w s.books in
     let items = slot_items slot t.plan in
-    let mine = slot-behind s t w g in
+    let mine = slot-following s t w g in
     let yours : items ≡ slot_items slot s.plan = ap (λ (p : Plan). slot_items slot p) g.same in
     record {
       good = good-more s t (record t { table = assigned w items t.table; acts = t.acts ++ RunAll w ∷ [] }) (RunAll w) g.good refl refl
-          (orderly-run_all m w (ap (λ (p : Plan). is_each p.mode) (g.good.plan ∙ g.same) ∙ e) (in_rota-behind s t w g.good a) (unshut-of s t w g.good a k.unshut)
+          (orderly-run_all m w (ap (λ (p : Plan). is_each p.mode) (g.good.plan ∙ g.same) ∙ e) (in_rota-following s t w g.good a) (unshut-of s t w g.good a k.unshut)
           (ap (λ (xs : List ℕ). all_among xs m.books.table.pool) mine ∙ ap (λ (u : Table). all_among (slot_items slot s.plan) u.pool) g.good.table ∙ k.within))
           (ap (λ (xs : List ℕ). assigned w xs m.books.table) (mine ∙ sym yours) ∙ ap (λ (u : Table). assigned w items u) g.good.table)
           g.good.plan (workers-change w (λ s. record s { held = s.held ++ items }) t.table.rota (λ s. refl)) refl;
@@ -195,8 +195,8 @@ good-of_slot s w (x ∷ xs) t e n a g unshut distinct within mine =
     let named : items_named (slot_of w m.books) indices m.plan ≡ items =
     items_named-each (slot_of w m.books) indices m.plan each ∙ ap (λ (k : ℕ). map (λ i. k + i) indices) (sym first) ∙ named-back (base slot t.plan) items low in
     good-more s t (give_of_slot w slot items t) (Run w indices) g.good refl refl
-    (orderly-of_slot m w (x - base slot t.plan) (map (λ item. item - base slot t.plan) xs) items named (in_rota-behind s t w g.good a) (unshut-of s t w g.good a unshut) distinct
-    (ap (λ (u : Table). all_among items u.pool) g.good.table ∙ within) each (ap (λ (ys : List ℕ). all_among items ys) (slot-behind s t w g) ∙ mine))
+    (orderly-of_slot m w (x - base slot t.plan) (map (λ item. item - base slot t.plan) xs) items named (in_rota-following s t w g.good a) (unshut-of s t w g.good a unshut) distinct
+    (ap (λ (u : Table). all_among items u.pool) g.good.table ∙ within) each (ap (λ (ys : List ℕ). all_among items ys) (slot-following s t w g) ∙ mine))
     (ap (λ (ys : List ℕ). assigned w ys m.books.table) named ∙ ap (λ (u : Table). assigned w items u) g.good.table)
     (plan-plain w indices m.plan (ap (λ (p : Plan). is_scope p.mode) plan ∙ n) ∙ g.good.plan)
     (workers-change w (λ s. record s { held = s.held ++ items }) t.table.rota (λ s. refl)) refl

@@ -31,7 +31,7 @@ use Rattle.xd_laws.proofs.Inputs.{collecting-keeps}
 use Rattle.xd_laws.proofs.Spent.{spent-finished}
 use Rattle.xd_laws.proofs.Busy.{AllWork}
 use Rattle.xd_laws.proofs.Later.{Later, all_plain, is_plain, later-outputs, tells}
-use Rattle.xd_laws.proofs.Serving.{Ahead}
+use Rattle.xd_laws.proofs.Serving.{Earlier}
 use Rattle.xd_laws.proofs.Owing.{AllTold, AskedOpen, Awaited, Going, HasSlot, Owing, Seated, awaits-by, has-both, has-without}
 use Rattle.xd_laws.proofs.Keeping.{Keeper, OthersTold, later-call}
 
@@ -165,7 +165,7 @@ told-all s d o v a r =
 
 -- the calls of the mode
 
-pub going-call : (X : State → Type 0) → Keeper X → (s : State) (c : ModeCall) → Tidy s → s.books.shared ≡ true → X s → CallFits s c → (c ≡ TestsBack → s.plan.mode ≡ WorkSteal) → Ahead s c → OthersTold s c
+pub going-call : (X : State → Type 0) → Keeper X → (s : State) (c : ModeCall) → Tidy s → s.books.shared ≡ true → X s → CallFits s c → (c ≡ TestsBack → s.plan.mode ≡ WorkSteal) → Earlier s c → OthersTold s c
     → Awaited (after_entries s (acts_of c s)) → AskedOpen s → Seated s → Going (after_entries s (acts_of c s))
 going-call X k s c d h x f b o t waits asked seated =
     let m = after_entries s (acts_of c s) in

@@ -23,7 +23,7 @@ use Rattle.xd_laws.proofs.Rule.{CallFits, Rule}
 use Rattle.xd_laws.proofs.Busy.{AllWork}
 use Rattle.xd_laws.proofs.Handing.{all_hand, hands_out}
 use Rattle.xd_laws.proofs.Later.{Later, later-outputs, plain-acts}
-use Rattle.xd_laws.proofs.Serving.{Ahead, Server}
+use Rattle.xd_laws.proofs.Serving.{Earlier, Server}
 use Rattle.xd_laws.proofs.Owing.{AskedOpen, Awaited}
 
 -- the call is of this worker's coming
@@ -56,7 +56,7 @@ replaced s w = after_effect (after_entries s (buried_acts s)) (Start (length s.b
 
 pub record Keeper (X : State → Type 0) : Type 0 where
   pub rule : Rule X
-  pub work : (s : State) (c : ModeCall) → Tidy s → s.books.shared ≡ true → X s → CallFits s c → (c ≡ TestsBack → s.plan.mode ≡ WorkSteal) → Ahead s c → OthersTold s c
+  pub work : (s : State) (c : ModeCall) → Tidy s → s.books.shared ≡ true → X s → CallFits s c → (c ≡ TestsBack → s.plan.mode ≡ WorkSteal) → Earlier s c → OthersTold s c
       → AllWork (workers_of s.books.table) (turned s.plan.mode c (turn_of s)).table
   pub told : (s : State) (c : ModeCall) → Tidy s → s.books.shared ≡ true → X s → CallFits s c → OthersTold s c → is_each s.plan.mode ≡ true
       → (v : ℕ) → InRota s v → seat_shut v (turned s.plan.mode c (turn_of s)).table ≡ true

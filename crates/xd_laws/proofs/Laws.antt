@@ -31,7 +31,7 @@ use Rattle.xd_ledger.specs.Proper.{has_workers, IsProper}
 use Rattle.xd_ledger.specs.Orderly.{is_orderly_run}
 use Rattle.xd_laws.specs.Once.{IsOnce}
 use Rattle.xd_laws.proofs.Logic.{differ, cases_of, split-and, not_true}
-use Rattle.xd_laws.proofs.Counts.{times-in_range, times-behind_range, empty-of_times}
+use Rattle.xd_laws.proofs.Counts.{times-in_range, times-after_range, empty-of_times}
 use Rattle.xd_laws.proofs.Placed.{Placed, due_times, at_most_once}
 use Rattle.xd_laws.proofs.Turns.{Tidy}
 use Rattle.xd_laws.proofs.Rule.{Rule}
@@ -92,7 +92,7 @@ once-placed s k =
     λ b h x. k.whole x ∙ ap (λ (q : Bool). due_times x q (total s.plan)) h in
     record {
       each_once = λ h x l. whole true h x ∙ times-in_range x 0 (total s.plan) (omega arith) (omega (arith, l));
-      no_other = λ h x l. whole true h x ∙ times-behind_range x 0 (total s.plan) (omega (arith, l));
+      no_other = λ h x l. whole true h x ∙ times-after_range x 0 (total s.plan) (omega (arith, l));
       none_before = λ h. empty-of_times (all_items s.books.table) (whole false h);
     }
 

@@ -155,16 +155,16 @@ over-first (Refused w t) es other h = refl
 over-first (Down w c o) es other h = refl
 over-first (NotStarted w) es other h = refl
 
-over-behind : (es more : List Entry) (other : RunStop) → NoOver es → over_in (es ++ more) other ≡ over_in more other
-over-behind [] more other h = refl
-over-behind (e ∷ es) more other h = (let p = split-and (no_over e) (list_all no_over es) h in over-first e (es ++ more) other p.0 ∙ over-behind es more other p.1)
+over-following : (es more : List Entry) (other : RunStop) → NoOver es → over_in (es ++ more) other ≡ over_in more other
+over-following [] more other h = refl
+over-following (e ∷ es) more other h = (let p = split-and (no_over e) (list_all no_over es) h in over-first e (es ++ more) other p.0 ∙ over-following es more other p.1)
 
 no-over-kills : (ms : List Member) → NoOver (map (λ (m : Member). Kill m.worker) ms)
 no-over-kills [] = refl
 no-over-kills (m ∷ ms) = no-over-kills ms
 
 pub stop-failed : (b : Books) (es : List Entry) (other : RunStop) → NoOver es → over_in (es ++ ending true b) other ≡ OutFault
-stop-failed b es other h = over-behind es (ending true b) other h ∙ over-behind (kills b.members) (Over OutFault ∷ []) other (no-over-kills (filter (λ m. m.active) b.members))
+stop-failed b es other h = over-following es (ending true b) other h ∙ over-following (kills b.members) (Over OutFault ∷ []) other (no-over-kills (filter (λ m. m.active) b.members))
 
 pub stop-over : (b : Books) (es : List Entry) (other : RunStop) → NoOver es → over_in (es ++ ending false b) other ≡ run_end_of b
-stop-over b es other h = over-behind es (ending false b) other h
+stop-over b es other h = over-following es (ending false b) other h

@@ -34,19 +34,19 @@ scoped = (97 ∷ 58 ∷ 58 ∷ 49 ∷ []) ∷ (97 ∷ 58 ∷ 58 ∷ 50 ∷ []) �
 abbrev collected : List Entry
 collected = Ready 0 ∷ Collected 0 (ids.List scoped) ∷ Ready 1 ∷ Collected 1 (ids.List scoped) ∷ []
 
-abbrev behind : ModeKind → List Entry → State
-behind k inputs = after_inputs (after_starts (in_mode k)) inputs
+abbrev following : ModeKind → List Entry → State
+following k inputs = after_inputs (after_starts (in_mode k)) inputs
 
 -- nobody is ready
-opening : who_owe (behind Load []) ≡ true ∷ true ∷ []
+opening : who_owe (following Load []) ≡ true ∷ true ∷ []
 opening = refl
 
 -- worker 1 is ready and has not collected, and worker 0 has to wait for it: it owes nothing
-one_collected : who_owe (behind Load (take 3 collected)) ≡ false ∷ true ∷ []
+one_collected : who_owe (following Load (take 3 collected)) ≡ false ∷ true ∷ []
 one_collected = refl
 
 -- mode load: worker 0 holds tests 0 and 2, worker 1 holds test 1, and both are to end
-load_shared : who_owe (behind Load collected) ≡ true ∷ true ∷ []
+load_shared : who_owe (following Load collected) ≡ true ∷ true ∷ []
 load_shared = refl
 
 -- worker 0 went down, and owes nothing any more; whoever replaces it is not ready
@@ -58,17 +58,17 @@ load_retried : who_owe (after_inputs (after_starts one_retry) first_crash) ≡ f
 load_retried = refl
 
 -- mode each: worker 0 ran all of its tests and ended, worker 1 is to end
-each_ended : who_owe (behind Each (collected ++ Done 0 0 Passed 5 [] ∷ Done 0 1 Passed 5 [] ∷ Done 0 2 Passed 5 [] ∷ Finished 0 ∷ [])) ≡ false ∷ true ∷ []
+each_ended : who_owe (following Each (collected ++ Done 0 0 Passed 5 [] ∷ Done 0 1 Passed 5 [] ∷ Done 0 2 Passed 5 [] ∷ Finished 0 ∷ [])) ≡ false ∷ true ∷ []
 each_ended = refl
 
 -- mode loadfile: worker 0 has a test of its file left
-file_shared : who_owe (behind LoadFile (collected ++ Done 0 0 Passed 5 [] ∷ [])) ≡ true ∷ true ∷ []
+file_shared : who_owe (following LoadFile (collected ++ Done 0 0 Passed 5 [] ∷ [])) ≡ true ∷ true ∷ []
 file_shared = refl
 
-scope_shared : who_owe (behind LoadScope collected) ≡ true ∷ true ∷ []
+scope_shared : who_owe (following LoadScope collected) ≡ true ∷ true ∷ []
 scope_shared = refl
 
-group_shared : who_owe (behind LoadGroup collected) ≡ true ∷ true ∷ []
+group_shared : who_owe (following LoadGroup collected) ≡ true ∷ true ∷ []
 group_shared = refl
 
 -- six tests
@@ -79,7 +79,7 @@ six = (97 ∷ []) ∷ (98 ∷ []) ∷ (99 ∷ []) ∷ (100 ∷ []) ∷ (101 ∷ 
 abbrev asked : List Entry
 asked = Ready 0 ∷ Collected 0 (ids.List six) ∷ Ready 1 ∷ Collected 1 (ids.List six) ∷ Done 0 0 Passed 5 [] ∷ Done 0 1 Passed 5 [] ∷ []
 
-steal_asked : who_owe (behind WorkSteal asked) ≡ false ∷ true ∷ []
+steal_asked : who_owe (following WorkSteal asked) ≡ false ∷ true ∷ []
 steal_asked = refl
 
 asked-proper : IsProper (in_mode WorkSteal) asked

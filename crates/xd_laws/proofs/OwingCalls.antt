@@ -28,7 +28,7 @@ use Rattle.xd_laws.proofs.Turns.{InRota, Tidy}
 use Rattle.xd_laws.proofs.Rule.{CallFits}
 use Rattle.xd_laws.proofs.Inputs.{done-unstopped}
 use Rattle.xd_laws.proofs.Outputs.{workers-first}
-use Rattle.xd_laws.proofs.Serving.{Ahead, OthersWork}
+use Rattle.xd_laws.proofs.Serving.{Earlier, OthersWork}
 use Rattle.xd_laws.proofs.Owing.{AllTold, AskedOpen, Owing, Seated}
 use Rattle.xd_laws.proofs.Keeping.{Expects, Keeper, OthersTold, later-call}
 use Rattle.xd_laws.proofs.Going.{awaited-by, going-call, owing-later, owing-unless}
@@ -61,10 +61,10 @@ first-other v w (i ∷ is) t h = held-other v w (λ s. record s { held = without
 
 module _ (X : State → Type 0) (k : Keeper X) where
   pub call-owing : (s now : State) (c : ModeCall) → (is_shutting s.books ≡ true → AllTold now) → now.books.shutting ≡ s.books.shutting → is_stopped now.books ≡ false → Tidy now → now.books.shared ≡ true → X now
-      → CallFits now c → (c ≡ TestsBack → now.plan.mode ≡ WorkSteal) → Ahead now c → OthersTold now c → Expects now c → AskedOpen now → Seated now → Owing (after_entries now (acts_of c now))
-  call-owing s now c told same n d h x f b ahead others expects asked seated =
+      → CallFits now c → (c ≡ TestsBack → now.plan.mode ≡ WorkSteal) → Earlier now c → OthersTold now c → Expects now c → AskedOpen now → Seated now → Owing (after_entries now (acts_of c now))
+  call-owing s now c told same n d h x f b preceding others expects asked seated =
       owing-later s now (after_entries now (acts_of c now)) told same n (later-call X k.rule now c d h x f)
-      (going-call X k now c d h x f b ahead others (k.waits now c d h x f expects) asked seated)
+      (going-call X k now c d h x f b preceding others (k.waits now c d h x f expects) asked seated)
 
   pub done-owing : (s : State) (w i : ℕ) (u : Outcome) (m : ℕ) (o : List ℕ) → may_follow s (Done w i u m o) ≡ true → Tidy s → Tidy (after_effect s (Done w i u m o)) → X (after_effect s (Done w i u m o)) → Owing s
       → Owing (after_entries (after_effect s (Done w i u m o)) (own_outputs s (Done w i u m o) (after_effect s (Done w i u m o))))

@@ -22,7 +22,7 @@ use Rattle.xd_ledger.specs.Proper.{may_follow}
 use Rattle.xd_ledger.specs.Orderly.{is_orderly, may_run, not_empty}
 use Rattle.xd_laws.specs.Places.{HeldBy, InPool, Place, Reported, StandsAt, or_before, place_by, put_last, puts}
 use Rattle.xd_laws.proofs.Logic.{cases_of, differ, split-and}
-use Rattle.xd_laws.proofs.Counts.{among-in_range, among-times, times-among, times-append, times-behind_range, times-cut, times-without}
+use Rattle.xd_laws.proofs.Counts.{among-in_range, among-times, times-among, times-append, times-after_range, times-cut, times-without}
 use Rattle.xd_laws.proofs.Rota.{has_seat, seat-of_held}
 use Rattle.xd_laws.proofs.Places.{held-within, joined-keeps, times-table}
 use Rattle.xd_laws.proofs.Placed.{Placed, due_times, empty_of, placed-output}
@@ -215,7 +215,7 @@ stands-shared t x w n p z h = by (nat_lt x n) refl
         let a = joined-keeps x w t in
         let b = times-table x (joined w t) in
         let c = times-table x (record (joined w t) { pool = range_with_len 0 n }) in
-        let d = times-behind_range x 0 n (omega (arith, far)) in
+        let d = times-after_range x 0 n (omega (arith, far)) in
         let none : times x (all_items (record (joined w t) { pool = range_with_len 0 n })) ≡ 0 = omega (arith, a, b, c, d, z) in
         subst (λ (q : Option Place). StandsAt (record (joined w t) { pool = range_with_len 0 n }) x q) (sym (nowhere-by t x p z h)) none
 

@@ -28,10 +28,10 @@ one_retry = record three { retries = 1 }
 abbrev pub first_crash : List Entry
 first_crash = take 5 a_death
 
-abbrev behind_first : State
-behind_first = after_inputs (after_starts one_retry) first_crash
+abbrev after_first_crash : State
+after_first_crash = after_inputs (after_starts one_retry) first_crash
 
-first_crash-pool : behind_first.books.table.pool ≡ 0 ∷ 2 ∷ []
+first_crash-pool : after_first_crash.books.table.pool ≡ 0 ∷ 2 ∷ []
 first_crash-pool = refl
 
 first_crash-reports : reports one_retry (journal_of one_retry first_crash) ≡ []
@@ -73,17 +73,17 @@ crash_of_retry : is_retry 0 (after_inputs (after_starts one_retry) (take 4 a_dea
 crash_of_retry h = absurd (differ cc)
 
 -- a retried test is reported as well
-retried_and_reported : IsOnce (in_books (on_table (λ t. record t { reported = 0 ∷ [] })) behind_first) → ⊥
+retried_and_reported : IsOnce (in_books (on_table (λ t. record t { reported = 0 ∷ [] })) after_first_crash) → ⊥
 retried_and_reported once =
     let two : 2 ≡ 1 = once.each_once refl 0 (omega arith) in
     omega (two, arith)
 
 -- so stands the last entry that moves it
-retried_is_reported : StandsAt behind_first.books.table 0 (Some Reported) → ⊥
+retried_is_reported : StandsAt after_first_crash.books.table 0 (Some Reported) → ⊥
 retried_is_reported h = differ h
 
 -- a test is told as crashed at its first death, and has a result
-told_at_both : AreOnce (Crash 0 0 ∷ Result 2 0 Passed ∷ []) behind_first → ⊥
+told_at_both : AreOnce (Crash 0 0 ∷ Result 2 0 Passed ∷ []) after_first_crash → ⊥
 told_at_both once =
     let two : 2 ≤ 1 = once.at_most 0 in
     omega (two, arith)

@@ -239,23 +239,23 @@ module _ (s : State) (k : IsScoped s) (d : Tidy s) (unshut : (v : ℕ) → InRot
   abbrev back : List ℕ
   back = reverse (drop n ws)
 
-  ahead : all_among front ws ≡ true
-  ahead = all_among-take n ws
+  preceding : all_among front ws ≡ true
+  preceding = all_among-take n ws
 
-  behind : all_among back ws ≡ true
-  behind = all_among-of back ws (λ x h. among_of-all_among x (drop n ws) ws (all_among-drop n (drop n ws) ws (all_among-self (drop n ws))) (sym (among-reverse x (drop n ws)) ∙ h))
+  following : all_among back ws ≡ true
+  following = all_among-of back ws (λ x h. among_of-all_among x (drop n ws) ws (all_among-drop n (drop n ws) ws (all_among-self (drop n ws))) (sym (among-reverse x (drop n ws)) ∙ h))
 
   abbrev first : Turn
   first = shut_each back begins
 
   untold : (v : ℕ) → among v front ≡ true → seat_shut v first.table ≡ false
-  untold v h = told-others v back begins (among-reverse v (drop n ws) ∙ front-only v n ws (rota-distinct s d) h) ∙ unshut v (among_of-all_among v front ws ahead h)
+  untold v h = told-others v back begins (among-reverse v (drop n ws) ∙ front-only v n ws (rota-distinct s d) h) ∙ unshut v (among_of-all_among v front ws preceding h)
 
   abbrev units : Turn
   units = in_turn give_unit front first
 
   dealt : FineFor s front units
-  dealt = fine-units s front first k ahead (record { fine = fine-shut_each s back begins behind f; untold = untold })
+  dealt = fine-units s front first k preceding (record { fine = fine-shut_each s back begins following f; untold = untold })
 
   covered : Covers units.table units.plan
   covered = in_turn-all IsCovered give_unit (λ w u z. covered-unit w u z) front first (covered-shuts back begins c)
@@ -264,7 +264,7 @@ module _ (s : State) (k : IsScoped s) (d : Tidy s) (unshut : (v : ℕ) → InRot
   last = in_turn scope_refill front units
 
   front-work : AllWork front last.table
-  front-work = refills-work s front units k ahead (record { fine = dealt.fine; covers = covered })
+  front-work = refills-work s front units k preceding (record { fine = dealt.fine; covers = covered })
 
   back-work : (v : ℕ) → among v (drop n ws) ≡ true → has_work v last.table ≡ true
   back-work v h =

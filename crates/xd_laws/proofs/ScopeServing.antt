@@ -43,7 +43,7 @@ use Rattle.xd_laws.proofs.Busy.{AllWork}
 use Rattle.xd_laws.proofs.Handing.{Fair, Serves, in_turn-all, serves-fair}
 use Rattle.xd_laws.proofs.ScopeTurns.{unit-by}
 use Rattle.xd_laws.proofs.ScopeBusy.{Ample, Covers, covered-refill, covered-refills, covered-share, fair-refill, fair-refills, fair-share, none-there, refill-employs, refill-keeps, refills-work, share-work}
-use Rattle.xd_laws.proofs.Serving.{Ahead, Beside, Both, Server, one-work, rule-both}
+use Rattle.xd_laws.proofs.Serving.{Earlier, Beside, Both, Server, one-work, rule-both}
 
 -- whatever is held was given
 
@@ -265,7 +265,7 @@ ample s d h x = record { fine = record { good = good-first s d h; queue = x.firs
 no-scope : (k : ModeKind) → is_scope k ≡ true → k ≡ WorkSteal → ⊥
 no-scope k h e = differ (ap is_scope (sym e) ∙ h)
 
-scope-work : (s : State) (c : ModeCall) → Tidy s → s.books.shared ≡ true → InScope s → CallFits s c → (c ≡ TestsBack → s.plan.mode ≡ WorkSteal) → Ahead s c → AllWork (workers_of s.books.table) (scope_turn c (turn_of s)).table
+scope-work : (s : State) (c : ModeCall) → Tidy s → s.books.shared ≡ true → InScope s → CallFits s c → (c ≡ TestsBack → s.plan.mode ≡ WorkSteal) → Earlier s c → AllWork (workers_of s.books.table) (scope_turn c (turn_of s)).table
 scope-work s (Share slots) d h x f b o =
     share-work s x.first.mode d (λ v a. sym (d.placed.fits.marks v (seat-among v s.books.table.rota ∙ a)) ∙ f.unshut v) (ample s d h x).fine x.second.covers
 scope-work s (Joined w slot) d h x f b o = refills-work s (workers_of s.books.table) (turn_of s) x.first.mode (all_among-self (workers_of s.books.table)) (ample s d h x)

@@ -23,7 +23,7 @@ use Rattle.xd_laws.proofs.Logic.{differ, split-and, in_both}
 use Rattle.xd_laws.proofs.Counts.{times-append, among-times, times-among, distinct-of_times, all_among-of, all_among-self, all_among-take, all_among-drop, among_of-all_among}
 use Rattle.xd_laws.proofs.Rota.{told-change, workers-change}
 use Rattle.xd_laws.proofs.Places.{times-table}
-use Rattle.xd_laws.proofs.Turns.{Tidy, Good, InRota, in_rota-behind, unshut-of, turn-once, orderly-run, named-plain, good-more, good-shut, in_turn-keeps}
+use Rattle.xd_laws.proofs.Turns.{Tidy, Good, InRota, in_rota-following, unshut-of, turn-once, orderly-run, named-plain, good-more, good-shut, in_turn-keeps}
 use Rattle.xd_laws.proofs.Units.{none_empty}
 use Rattle.xd_laws.proofs.Queue.{QueueFits, handed_out, queue-shut, queue-given}
 use Rattle.xd_laws.proofs.EachTurns.{told-other, rota-distinct}
@@ -72,7 +72,7 @@ fine-unit s w u us t k a f unshut e =
     let inside : all_among u t.table.pool ≡ true = all_among-of u t.table.pool (λ x h. times-among x t.table.pool (omega (arith, within x, among-times x u h))) in
     let mode : m.plan.mode ≡ s.plan.mode = ap (λ (p : Plan). p.mode) g.plan ∙ g.mode in
     let each : is_each m.plan.mode ≡ false = ap is_each mode ∙ k.each in
-    let rota = in_rota-behind s t w g a in
+    let rota = in_rota-following s t w g a in
     record {
       good = good-more s t (with_unit w u us t) (Run w u) g refl refl
           (orderly-run m w u each rota (unshut-of s t w g a unshut) filled distinct (ap (λ (v : Table). all_among u v.pool) g.table ∙ inside))
@@ -161,12 +161,12 @@ among-reverse x (y ∷ xs) = ap (λ (zs : List ℕ). among x zs) (reverse-append
 pub front-only : (v n : ℕ) (ws : List ℕ) → all_distinct ws ≡ true → among v (take n ws) ≡ true → among v (drop n ws) ≡ false
 front-only v zero ws d h = absurd (differ h)
 front-only v (suc n) [] d h = absurd (differ h)
-front-only v (suc n) (w ∷ ws) d h = grind (arith, nat_tests, d, h, front-only v n ws, behind v n ws)
+front-only v (suc n) (w ∷ ws) d h = grind (arith, nat_tests, d, h, front-only v n ws, following v n ws)
   where
-    behind : (v n : ℕ) (ws : List ℕ) → among v ws ≡ false → among v (drop n ws) ≡ false
-    behind v zero ws h = h
-    behind v (suc n) [] h = h
-    behind v (suc n) (w ∷ ws) h = behind v n ws (grind (arith, nat_tests, h))
+    following : (v n : ℕ) (ws : List ℕ) → among v ws ≡ false → among v (drop n ws) ≡ false
+    following v zero ws h = h
+    following v (suc n) [] h = h
+    following v (suc n) (w ∷ ws) h = following v n ws (grind (arith, nat_tests, h))
 
 share-by : (s : State) (pool : List ℕ) (t : Turn) (shared : Turn) → Fine s t → Fine s shared → Fine s (elim pool as (λ _. Turn) [ [] ↦ t | x ∷ xs ↦ shared ])
 share-by s [] t u f g = f
@@ -179,11 +179,11 @@ fine-share s k d unshut f =
     let ws = workers_of s.books.table in
     let front = take n ws in
     let back = reverse (drop n ws) in
-    let ahead = all_among-take n ws in
-    let behind : all_among back ws ≡ true = all_among-of back ws (λ x h. among_of-all_among x (drop n ws) ws (all_among-drop n (drop n ws) ws (all_among-self (drop n ws))) (sym (among-reverse x (drop n ws)) ∙ h)) in
+    let preceding = all_among-take n ws in
+    let following : all_among back ws ≡ true = all_among-of back ws (λ x h. among_of-all_among x (drop n ws) ws (all_among-drop n (drop n ws) ws (all_among-self (drop n ws))) (sym (among-reverse x (drop n ws)) ∙ h)) in
     let first = shut_each back t in
     let untold : (v : ℕ) → among v front ≡ true → seat_shut v first.table ≡ false = λ v h.
-    told-others v back t (among-reverse v (drop n ws) ∙ front-only v n ws (rota-distinct s d) h) ∙ unshut v (among_of-all_among v front ws ahead h) in
-    let units = fine-units s front first k ahead (record { fine = fine-shut_each s back t behind f; untold = untold }) in
+    told-others v back t (among-reverse v (drop n ws) ∙ front-only v n ws (rota-distinct s d) h) ∙ unshut v (among_of-all_among v front ws preceding h) in
+    let units = fine-units s front first k preceding (record { fine = fine-shut_each s back t following f; untold = untold }) in
     let last = in_turn scope_refill front (in_turn give_unit front first) in
-    share-by s t.table.pool t (shut_where_spent last) f (spent-by s last.plan.queue last (fine-refills s front (in_turn give_unit front first) k ahead units.fine))
+    share-by s t.table.pool t (shut_where_spent last) f (spent-by s last.plan.queue last (fine-refills s front (in_turn give_unit front first) k preceding units.fine))

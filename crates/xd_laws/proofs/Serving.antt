@@ -67,14 +67,14 @@ abbrev pub OthersWork : ℕ → State → Type 0
 OthersWork w s = (s.books.table.pool ≡ []) ⊎ ((v : ℕ) → InRota s v → (v == w) ≡ false → has_work v s.books.table ≡ true)
 
 -- what is known of the workers before a call
-abbrev pub Ahead : State → ModeCall → Type 0
-Ahead s (TestDone w ms) = OthersWork w s
-Ahead s _ = Unit {0}
+abbrev pub Earlier : State → ModeCall → Type 0
+Earlier s (TestDone w ms) = OthersWork w s
+Earlier s _ = Unit {0}
 
 -- how a mode without slots of tests leaves workers and pool
 pub record Server (X : State → Type 0) : Type 0 where
   pub rule : Rule X
-  pub work : (s : State) (c : ModeCall) → Tidy s → s.books.shared ≡ true → X s → CallFits s c → (c ≡ TestsBack → s.plan.mode ≡ WorkSteal) → Ahead s c → AllWork (workers_of s.books.table) (turned s.plan.mode c (turn_of s)).table
+  pub work : (s : State) (c : ModeCall) → Tidy s → s.books.shared ≡ true → X s → CallFits s c → (c ≡ TestsBack → s.plan.mode ≡ WorkSteal) → Earlier s c → AllWork (workers_of s.books.table) (turned s.plan.mode c (turn_of s)).table
   pub serves : (s : State) (c : ModeCall) → Tidy s → s.books.shared ≡ true → X s → CallFits s c → Serves s (turned s.plan.mode c (turn_of s))
   pub steals : (s : State) → X s → (s.plan.mode ≡ WorkSteal) ⊎ (s.plan.steal ≡ None)
   pub each : (s : State) → X s → is_each s.plan.mode ≡ false
@@ -144,7 +144,7 @@ load_beside = record {
 load-back : (s : State) → InMode Load s → s.plan.mode ≡ WorkSteal → ⊥
 load-back s m e = (let z : Load ≡ WorkSteal = sym m ∙ e in cc)
 
-load-work : (s : State) (c : ModeCall) → Tidy s → s.books.shared ≡ true → InLoad s → CallFits s c → (c ≡ TestsBack → s.plan.mode ≡ WorkSteal) → Ahead s c → AllWork (workers_of s.books.table) (load_turn c (turn_of s)).table
+load-work : (s : State) (c : ModeCall) → Tidy s → s.books.shared ≡ true → InLoad s → CallFits s c → (c ≡ TestsBack → s.plan.mode ≡ WorkSteal) → Earlier s c → AllWork (workers_of s.books.table) (load_turn c (turn_of s)).table
 load-work s (Share slots) d h x f b o =
     load.share-work s (turn_of s) (load_plain s x.first) (good-first s d h) (λ v a. sym (d.placed.fits.marks v (seat-among v s.books.table.rota ∙ a)) ∙ f.unshut v)
 load-work s (Joined w slot) d h x f b o = load.refill_all-work s (turn_of s) (load_plain s x.first) (good-first s d h)

@@ -19,7 +19,7 @@ use Rattle.xd_laws.proofs.Counts.{distinct-of_times, all_among-more, all_among-d
 use Rattle.xd_laws.proofs.Rota.{seats_of, has_seat, is_told, one-of_seat, untold-of_seat, seat-among, seat-change, told-change}
 use Rattle.xd_laws.proofs.Places.{times-table, held-within}
 use Rattle.xd_laws.proofs.Placed.{Placed, at_most_once}
-use Rattle.xd_laws.proofs.Turns.{Good, InRota, IsPlain, in_rota-behind, unshut-of, good-more, good-give_front, good-shut_each}
+use Rattle.xd_laws.proofs.Turns.{Good, InRota, IsPlain, in_rota-following, unshut-of, good-more, good-give_front, good-shut_each}
 
 -- each worker has one seat at most
 abbrev pub OneSeat : List Seat → Type 0
@@ -156,7 +156,7 @@ good-asks s v t g none k h =
     let distinct : all_distinct v.held ≡ true = ap all_distinct (sym holds) ∙ held-distinct m w g.tidy.placed in
     let asked : Option UnansweredSteal = Some (record { worker = w; tests = tests }) in
     good-more s t (asks v (steal_count v) t) (Steal w tests) g refl refl
-    (orderly-steal m w tests (in_rota-behind s t w g a) (unshut-of s t w g a k.open_.untold) (ap (λ (p : Plan). is_none p.steal) g.plan ∙ ap is_none none)
+    (orderly-steal m w tests (in_rota-following s t w g a) (unshut-of s t w g a k.open_.untold) (ap (λ (p : Plan). is_none p.steal) g.plan ∙ ap is_none none)
     (not_empty-drop n v.held low.1) (distinct-drop n v.held distinct)
     (ap (λ (xs : List ℕ). all_among tests (drop 2 xs)) holds ∙ all_among-drops 2 n v.held low.0))
     g.table (ap (λ (p : Plan). record p { steal = asked }) g.plan) refl refl

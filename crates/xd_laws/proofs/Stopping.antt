@@ -66,8 +66,8 @@ collects-more es e w own c = record {
   are = ap (λ (xs : List Entry). xs ++ e ∷ []) c.are ∙ append_assoc c.before (Collected w (ids.List own) ∷ c.after) (e ∷ []);
 }
 
-pub stops-behind : (settings : Settings) (es more : List Entry) (how : RunStop) → StopsBy settings es how → StopsBy settings (es ++ more) how
-stops-behind settings es more how c = record {
+pub stops-following : (settings : Settings) (es more : List Entry) (how : RunStop) → StopsBy settings es how → StopsBy settings (es ++ more) how
+stops-following settings es more how c = record {
   before = c.before;
   last = c.last;
   after = c.after ++ more;
@@ -106,7 +106,7 @@ tells-more settings s t es e same f d ls a k = record {
   lists = ls;
   under = λ h. (let p = or-none s.books.stop a.new (sym a.stop_is ∙ h) in a.under p.0 p.1);
   stops = λ how h. elim (or-some s.books.stop a.new how (sym a.stop_is ∙ h)) [
-    | inl p ↦ stops-behind settings es (e ∷ []) how (k.stops how p)
+    | inl p ↦ stops-following settings es (e ∷ []) how (k.stops how p)
     | inr p ↦ record { before = es; last = e; after = []; are = refl; brings = a.brings how p.0 p.1 }
   ];
 }

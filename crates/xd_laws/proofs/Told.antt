@@ -79,11 +79,11 @@ reports-first s (Down w c o) es h = absurd (differ h)
 reports-first s (NotStarted w) es h = absurd (differ h)
 
 -- outputs in order, and then more
-reports-behind : (s : State) (es more : List Entry) → all_orderly s es ≡ true → (reports_from s (es ++ more) ≡ reports_from (after_entries s es) more) × (reported (after_entries s es) ≡ reported s)
-reports-behind s [] more h = (refl, refl)
-reports-behind s (e ∷ es) more h =
+reports-following : (s : State) (es more : List Entry) → all_orderly s es ≡ true → (reports_from s (es ++ more) ≡ reports_from (after_entries s es) more) × (reported (after_entries s es) ≡ reported s)
+reports-following s [] more h = (refl, refl)
+reports-following s (e ∷ es) more h =
     let p = split-and (is_orderly s e) (all_orderly (after_effect s e) es) h in
-    let r = reports-behind (after_effect s e) es more p.1 in
+    let r = reports-following (after_effect s e) es more p.1 in
     let same = after_entries-first s e es p.0 in (
       reports-first s e (es ++ more) p.0 ∙ r.0 ∙ ap (λ (u : State). reports_from u more) (sym same),
       ap reported same ∙ r.1 ∙ (quiet-reports s e p.0).1,
@@ -154,7 +154,7 @@ told-grown X rule x (e ∷ es) h k =
     let f = outputs-fit X rule s e p.0 k.tidy k.also in
     let y = after_entries (after_effect s e) (outputs s e) in
     let more = grown (settled y) es in
-    let b = reports-behind (after_effect s e) (outputs s e) more f.orderly in
+    let b = reports-following (after_effect s e) (outputs s e) more f.orderly in
     let rest = told-grown X rule y es p.1 (after_input-holds X rule s e p.0 k) in
     let own = items_told (reports_of s e) in
     let last = items_told (reports_from y more) in

@@ -162,12 +162,12 @@ InRota s w = among w (workers_of s.books.table) ≡ true
 pub in_rota-of : (s : State) (t : Turn) (w : ℕ) → Good s t → InRota s w → in_rota w t.table ≡ true
 in_rota-of s t w g a = seat-among w t.table.rota ∙ ap (λ (ws : List ℕ). among w ws) g.rota ∙ a
 
-pub in_rota-behind : (s : State) (t : Turn) (w : ℕ) → Good s t → InRota s w → in_rota w (after_entries s t.acts).books.table ≡ true
-in_rota-behind s t w g a = ap (λ (u : Table). in_rota w u) g.table ∙ in_rota-of s t w g a
+pub in_rota-following : (s : State) (t : Turn) (w : ℕ) → Good s t → InRota s w → in_rota w (after_entries s t.acts).books.table ≡ true
+in_rota-following s t w g a = ap (λ (u : Table). in_rota w u) g.table ∙ in_rota-of s t w g a
 
 -- both marks of a Shutdown agree
 pub unshut-of : (s : State) (t : Turn) (w : ℕ) → Good s t → InRota s w → seat_shut w t.table ≡ false → is_shut w (after_entries s t.acts).books ≡ false
-unshut-of s t w g a h = g.tidy.placed.fits.marks w (in_rota-behind s t w g a) ∙ ap (λ (u : Table). seat_shut w u) g.table ∙ h
+unshut-of s t w g a h = g.tidy.placed.fits.marks w (in_rota-following s t w g a) ∙ ap (λ (u : Table). seat_shut w u) g.table ∙ h
 
 pub pool-distinct : (s : State) → Placed s → all_distinct s.books.table.pool ≡ true
 pool-distinct s k = distinct-of_times s.books.table.pool (λ x. omega (arith, at_most_once s k x, times-table x s.books.table))
@@ -207,7 +207,7 @@ good-shut_new : (s : State) (w : ℕ) (t : Turn) → Good s t → InRota s w →
     → Good s (record t { table = shut_down w t.table; acts = t.acts ++ Shutdown w ∷ [] })
 good-shut_new s w t g a unshut =
     let m = after_entries s t.acts in
-    let there = in_rota-behind s t w g a in
+    let there = in_rota-following s t w g a in
     let f = g.tidy.placed.fits in
     good-more s t (record t { table = shut_down w t.table; acts = t.acts ++ Shutdown w ∷ [] }) (Shutdown w) g refl refl
     (orderly-shutdown m w (f.active w there) (f.ready w there) (unshut-of s t w g a unshut))
@@ -263,7 +263,7 @@ good-give s w (i ∷ is) t plain a g unshut distinct within =
     let each : is_each m.plan.mode ≡ false = ap is_each mode ∙ plain.each in
     let scope : is_scope m.plan.mode ≡ false = ap is_scope mode ∙ plain.scope in
     good-more s t (record t { table = assigned w items t.table; acts = t.acts ++ Run w items ∷ [] }) (Run w items) g refl refl
-    (orderly-run m w items each (in_rota-behind s t w g a) (unshut-of s t w g a unshut) refl distinct (ap (λ (u : Table). all_among items u.pool) g.table ∙ within))
+    (orderly-run m w items each (in_rota-following s t w g a) (unshut-of s t w g a unshut) refl distinct (ap (λ (u : Table). all_among items u.pool) g.table ∙ within))
     (ap (λ (xs : List ℕ). assigned w xs m.books.table) (named-plain (slot_of w m.books) items m.plan each) ∙ ap (λ (u : Table). assigned w items u) g.table)
     (plan-plain w items m.plan scope ∙ g.plan)
     (workers-change w (λ s. record s { held = s.held ++ items }) t.table.rota (λ s. refl)) refl

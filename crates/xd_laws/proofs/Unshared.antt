@@ -69,11 +69,11 @@ run-shared s w is k h =
 
 steal-shared : (s : State) (w : ℕ) (is : List ℕ) → Placed s → is_orderly s (Steal w is) ≡ true → s.books.shared ≡ true
 steal-shared s w is k h =
-    let behind = drop 2 (held w s.books.table) in
-    let a = split-and (may_run w s && is_none s.plan.steal && not_empty is && all_distinct is) (all_among is behind) h in
+    let following = drop 2 (held w s.books.table) in
+    let a = split-and (may_run w s && is_none s.plan.steal && not_empty is && all_distinct is) (all_among is following) h in
     let b = split-and (may_run w s && is_none s.plan.steal && not_empty is) (all_distinct is) a.0 in
     let c = split-and (may_run w s && is_none s.plan.steal) (not_empty is) b.0 in
-    let one = first_among is behind c.1 a.1 in
+    let one = first_among is following c.1 a.1 in
     shared-of_held s w one.0 k (among-drop one.0 2 (held w s.books.table) one.1)
 
 -- before the share nobody holds anything

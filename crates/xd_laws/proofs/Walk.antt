@@ -106,8 +106,8 @@ come-grown X rule x (e ∷ es) h k =
     let rest : AllCome y (grown (settled y) es) = come-grown X rule y es p.1 (after_input-holds X rule s e p.0 k) in
     let same : reached x e ≡ s = input-reached x e p.0 in
     let here : Comes s e = inl (k.tidy, p.0) in
-    let behind : AllCome (after_effect s e) (outputs s e ++ grown (settled y) es) = come-outputs (after_effect s e) (outputs s e) (grown (settled y) es) f.orderly (tidy-input s e p.0 k.tidy).placed rest in
-    (subst (λ (u : State). Comes u e) (sym same) here, subst (λ (u : State). AllCome (after_effect u e) (outputs s e ++ grown (settled y) es)) (sym same) behind)
+    let following : AllCome (after_effect s e) (outputs s e ++ grown (settled y) es) = come-outputs (after_effect s e) (outputs s e) (grown (settled y) es) f.orderly (tidy-input s e p.0 k.tidy).placed rest in
+    (subst (λ (u : State). Comes u e) (sym same) here, subst (λ (u : State). AllCome (after_effect u e) (outputs s e ++ grown (settled y) es)) (sym same) following)
 
 starts-orderly : (s : State) (w n : ℕ) → w ≡ length s.books.members → Numbered s.books.members → all_orderly s (starts_from w n) ≡ true
 starts-orderly s w zero e c = refl

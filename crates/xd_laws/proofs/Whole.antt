@@ -24,7 +24,7 @@ use Rattle.xd_laws.proofs.Logic.{cases_of}
 use Rattle.xd_laws.proofs.Turns.{after_entries-join}
 use Rattle.xd_laws.proofs.Walk.{all-inputs, journal-state, reports-append}
 use Rattle.xd_laws.proofs.NoOver.{NoOver, no-over-journal, stop-failed, stop-over}
-use Rattle.xd_laws.proofs.Stopping.{Tells, keeps_tells, stops-behind, tells-none}
+use Rattle.xd_laws.proofs.Stopping.{Tells, keeps_tells, stops-following, tells-none}
 use Rattle.xd_laws.proofs.Laws.{journal-keeps, over-shared, reported_once, shared_total, lawful, none-reported}
 
 -- the end moves nothing and reports nothing
@@ -113,7 +113,7 @@ module _ (j : Journal) (w : IsWhole j) where
         stop = λ n o. elim (cases_of w.out_failed) [
           | inl e ↦ absurd (o (stop-faulty e))
           | inr e ↦ subst (λ (es : List Entry). StopsBy j.settings es (stop_of j)) (sym w.entries)
-              (stops-behind j.settings (journal_of j.settings w.inputs) (ending w.out_failed b) (stop_of j) (stopped-by b.stop refl (sym (stop-whole e)) n))
+              (stops-following j.settings (journal_of j.settings w.inputs) (ending w.out_failed b) (stop_of j) (stopped-by b.stop refl (sym (stop-whole e)) n))
         ];
       }
 

@@ -147,8 +147,8 @@ crashed-head : IsDeath three crashed [] 0 0
 crashed-head = record { before = dealt; cause = Ended; output = []; after = Kill 0 ∷ []; are = refl; head = refl; final = refl; reported = refl }
 
 -- it stands for the test after the head
-crash_behind_head : first_of (held 0 (state_at three dealt).books.table) ≡ Some 2 → ⊥
-crash_behind_head h = absurd cc
+crash_after_head : first_of (held 0 (state_at three dealt).books.table) ≡ Some 2 → ⊥
+crash_after_head h = absurd cc
 
 dies-told : (before after : List Entry) (w : ℕ) (c : Cause) (o : List ℕ) → list_any is_death (before ++ Down w c o ∷ after) ≡ true
 dies-told [] after w c o = refl

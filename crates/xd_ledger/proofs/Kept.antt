@@ -19,8 +19,8 @@ use Rattle.xd_ledger.proofs.Sounds.{assigned_sound, completed_sound, given_back_
 
 -- the worker's list is none of the pool's
 pub record Has (w : ℕ) (l : Lists) (ps : List Post) (reported who_joined : List ℕ) : Type 0 where
-  pub behind_pool : (0 == chain_in w ps) ≡ false
-  pub ahead : (chain_in w ps == 0) ≡ false
+  pub after_pool : (0 == chain_in w ps) ≡ false
+  pub preceding : (chain_in w ps == 0) ≡ false
   pub below : chain_in w ps < chains_of l
   pub marked : Marks w (chain_in w ps) ps
   pub holds : held w (table_of (chain_at l) ps reported who_joined) ≡ chain_at l (chain_in w ps)
@@ -30,8 +30,8 @@ has w l ps reported who room k h =
     let i : list_any (λ q. q.worker == w) ps ≡ true = sym (any-posts w (chain_at l) ps) ∙ h in
     let t = k.known (chain_in w ps) (chain-there w ps i) in
     record {
-      behind_pool = (let a = t.0 in grind (arith, nat_tests));
-      ahead = (let a = t.0 in grind (arith, nat_tests));
+      after_pool = (let a = t.0 in grind (arith, nat_tests));
+      preceding = (let a = t.0 in grind (arith, nat_tests));
       below = t.1;
       marked = marks w (chain_at l) ps (k.sound.seated_once w) k.once (λ j e. (k.known j e).0) i;
       holds = held-posts w (chain_at l) ps i;
@@ -55,7 +55,7 @@ pub assign_table : (w : ℕ) (items : List ℕ) (l : Lists) (now : ℕ → List 
 assign_table w items l now ps reported who h a =
     let r = chain_in w ps in
     table-eq _ _ _ _ _ _ who
-    (a 0 ∙ shifted-from 0 r items (chain_at l) 0 h.ahead (same 0))
+    (a 0 ∙ shifted-from 0 r items (chain_at l) 0 h.preceding (same 0))
     (seats-moved w r (λ xs. xs ++ items) (chain_at l) now ps h.marked (a r ∙ shifted-to 0 r items (chain_at l) r (same r)) (λ j d f. a j ∙ shifted-else 0 r items (chain_at l) j (swapped j r d) (swapped j 0 f)))
     refl
 
@@ -67,7 +67,7 @@ give_back_table w items l now ps reported who h a =
     let r = chain_in w ps in
     table-eq _ _ _ _ _ _ who
     (a 0 ∙ shifted-to r 0 items (chain_at l) 0 (same 0))
-    (seats-moved w r (without items) (chain_at l) now ps h.marked (a r ∙ shifted-from r 0 items (chain_at l) r h.behind_pool (same r)) (λ j d f. a j ∙ shifted-else r 0 items (chain_at l) j (swapped j 0 f) (swapped j r d)))
+    (seats-moved w r (without items) (chain_at l) now ps h.marked (a r ∙ shifted-from r 0 items (chain_at l) r h.after_pool (same r)) (λ j d f. a j ∙ shifted-else r 0 items (chain_at l) j (swapped j 0 f) (swapped j r d)))
     refl
 
 -- complete
@@ -79,7 +79,7 @@ complete_table w item l now ps reported reported2 who h e a =
     let r = chain_in w ps in
     let xs = without (item ∷ []) (chain_at l r) in
     table-eq _ _ _ _ _ _ who
-    (a 0 ∙ changed-else r xs (chain_at l) 0 h.ahead)
+    (a 0 ∙ changed-else r xs (chain_at l) 0 h.preceding)
     (seats-moved w r (without (item ∷ [])) (chain_at l) now ps h.marked (a r ∙ changed-here r xs (chain_at l) r (same r)) (λ j d f. a j ∙ changed-else r xs (chain_at l) j (swapped j r d)))
     e
 
@@ -184,7 +184,7 @@ dies_table w retry l mid now ps ps2 reported reported2 who h d =
     let r = chain_in w ps in
     let xs = drop 1 (chain_at l r) in
     let head : List ℕ = retried_item retry (chain_at l r) in
-    let m : chain_at mid r ≡ xs = d.head_gone r ∙ released-rest retry r (chain_at l) h.behind_pool in
+    let m : chain_at mid r ≡ xs = d.head_gone r ∙ released-rest retry r (chain_at l) h.after_pool in
     let z : chain_at mid 0 ≡ head ++ chain_at l 0 = d.head_gone 0 ∙ released-pool retry r (chain_at l) in
     ap (λ qs. table_of (chain_at now) qs reported2 who) d.posts_are ∙ die_table w retry l (chain_at now) ps reported reported2 who h d.reported_is
     (d.poured_is 0 ∙ poured-to (length (chain_at mid r)) r 0 (chain_at mid) 0 (same 0) ∙ ap (λ (ys : List ℕ). chain_at mid 0 ++ ys) (take-whole (chain_at mid r)) ∙ ap (λ (ys : List ℕ). ys ++ chain_at mid r) z ∙ ap (λ (ys : List ℕ). (head ++ chain_at l 0) ++ ys) m ∙ append_assoc head (chain_at l 0) xs)

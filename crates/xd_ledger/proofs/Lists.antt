@@ -79,24 +79,24 @@ first-drop xs k h = ap first_of (drop_more xs k 0 h)
 not-first : (x y : ℕ) (xs : List ℕ) → all_distinct (x ∷ xs) ≡ true → among y xs ≡ true → (y == x) ≡ false
 not-first x y xs d h = grind (arith, nat_tests)
 
-pub behind-at : (xs : List ℕ) (k : ℕ) → k < length xs → all_distinct xs ≡ true → part_after (get_or xs k 0) xs ≡ drop (k + 1) xs
-behind-at [] k h d = absurd (omega arith)
-behind-at (x ∷ xs) zero h d = grind (arith, nat_tests)
-behind-at (x ∷ xs) (suc k) h d =
+pub following-at : (xs : List ℕ) (k : ℕ) → k < length xs → all_distinct xs ≡ true → part_after (get_or xs k 0) xs ≡ drop (k + 1) xs
+following-at [] k h d = absurd (omega arith)
+following-at (x ∷ xs) zero h d = grind (arith, nat_tests)
+following-at (x ∷ xs) (suc k) h d =
     let here : among (get_or xs k 0) xs ≡ true = among-at xs k (omega arith) in
     let rest : all_distinct xs ≡ true = grind (arith, nat_tests) in
     let other : (get_or xs k 0 == x) ≡ false = not-first x (get_or xs k 0) xs d here in
     let e : suc k + 1 ≡ suc (k + 1) = omega arith in
-    rw (other, e) (behind-at xs k (omega arith) rest)
+    rw (other, e) (following-at xs k (omega arith) rest)
 
-pub ahead-at : (xs : List ℕ) (k : ℕ) → k < length xs → all_distinct xs ≡ true → part_before (get_or xs k 0) xs ≡ take k xs
-ahead-at [] k h d = absurd (omega arith)
-ahead-at (x ∷ xs) zero h d = grind (arith, nat_tests)
-ahead-at (x ∷ xs) (suc k) h d =
+pub preceding-at : (xs : List ℕ) (k : ℕ) → k < length xs → all_distinct xs ≡ true → part_before (get_or xs k 0) xs ≡ take k xs
+preceding-at [] k h d = absurd (omega arith)
+preceding-at (x ∷ xs) zero h d = grind (arith, nat_tests)
+preceding-at (x ∷ xs) (suc k) h d =
     let here : among (get_or xs k 0) xs ≡ true = among-at xs k (omega arith) in
     let rest : all_distinct xs ≡ true = grind (arith, nat_tests) in
     let other : (get_or xs k 0 == x) ≡ false = not-first x (get_or xs k 0) xs d here in
-    rw other (ap (λ (ys : List ℕ). x ∷ ys) (ahead-at xs k (omega arith) rest))
+    rw other (ap (λ (ys : List ℕ). x ∷ ys) (preceding-at xs k (omega arith) rest))
 
 pub final-take : (xs : List ℕ) (k : ℕ) → k < length xs → final_of (take (k + 1) xs) ≡ Some (get_or xs k 0)
 final-take [] k h = absurd (omega arith)

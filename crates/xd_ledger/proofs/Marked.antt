@@ -19,7 +19,7 @@ chain-none w (q ∷ ps) h = grind (arith, nat_tests, chain-none w ps)
 
 pub in_rota_is : (w : ℕ) (l : Lists) (ps : List Post) (reported who : List ℕ) (room : ℕ) (t : Table) → table_of (chain_at l) ps reported who ≡ t → IsKept l ps reported who room → not (chain_in w ps == 0) ≡ in_rota w t
 in_rota_is w l ps reported who room t e k = by_cases (in_rota w (table_of (chain_at l) ps reported who))
-    (λ h. (let g = (has w l ps reported who room k h).ahead in ap not g ∙ sym h ∙ ap (in_rota w) e))
+    (λ h. (let g = (has w l ps reported who room k h).preceding in ap not g ∙ sym h ∙ ap (in_rota w) e))
     (λ f. (let z : chain_in w ps ≡ 0 = chain-none w ps (sym (any-posts w (chain_at l) ps) ∙ f) in let s : (chain_in w ps == 0) ≡ true = ap (λ i. i == 0) z in ap not s ∙ sym f ∙ ap (in_rota w) e))
 
 pub place_fits : (w n : ℕ) (l : Lists) (ps : List Post) (reported who : List ℕ) (t : Table) → table_of (chain_at l) ps reported who ≡ t → in_rota w t ≡ true → n ≡ place_in w ps → n < length ps

@@ -32,9 +32,9 @@ pub a_new_worker_gets_two : journal_of (record of_two { chunk = Some 1 }) (Ready
 a_new_worker_gets_two = refl
 
 -- a death refills everyone as after a fast test
-pub a_death_refills_behind_slow_tests : journal_of of_two (Ready 0 ∷ Collected 0 (ids.List hundred_ids) ∷ Ready 1 ∷ Collected 1 ids.Same ∷ Done 0 0 Passed 100 [] ∷ Done 0 1 Passed 100 [] ∷ Done 0 2 Passed 100 [] ∷ Done 0 3 Passed 100 [] ∷ Done 0 4 Passed 100 [] ∷ Done 0 5 Passed 100 [] ∷ Done 0 6 Passed 100 [] ∷ Down 1 Ended [] ∷ [])
+pub a_death_refills_after_slow_tests : journal_of of_two (Ready 0 ∷ Collected 0 (ids.List hundred_ids) ∷ Ready 1 ∷ Collected 1 ids.Same ∷ Done 0 0 Passed 100 [] ∷ Done 0 1 Passed 100 [] ∷ Done 0 2 Passed 100 [] ∷ Done 0 3 Passed 100 [] ∷ Done 0 4 Passed 100 [] ∷ Done 0 5 Passed 100 [] ∷ Done 0 6 Passed 100 [] ∷ Down 1 Ended [] ∷ [])
     ≡ (Start 0 0 ∷ Start 1 1 ∷ Ready 0 ∷ Collected 0 (ids.List hundred_ids) ∷ Ready 1 ∷ Collected 1 ids.Same ∷ Run 0 (0 ∷ 1 ∷ 2 ∷ 3 ∷ 4 ∷ 5 ∷ 6 ∷ 7 ∷ 8 ∷ 9 ∷ 10 ∷ 11 ∷ []) ∷ Run 1 (12 ∷ 13 ∷ 14 ∷ 15 ∷ 16 ∷ 17 ∷ 18 ∷ 19 ∷ 20 ∷ 21 ∷ 22 ∷ 23 ∷ []) ∷ Done 0 0 Passed 100 [] ∷ Done 0 1 Passed 100 [] ∷ Done 0 2 Passed 100 [] ∷ Done 0 3 Passed 100 [] ∷ Done 0 4 Passed 100 [] ∷ Done 0 5 Passed 100 [] ∷ Done 0 6 Passed 100 [] ∷ Down 1 Ended [] ∷ Kill 1 ∷ Run 0 (24 ∷ 25 ∷ 26 ∷ 27 ∷ 28 ∷ 29 ∷ 30 ∷ 31 ∷ 32 ∷ 33 ∷ 34 ∷ 35 ∷ 36 ∷ 37 ∷ 38 ∷ 39 ∷ 40 ∷ 41 ∷ 42 ∷ 43 ∷ 44 ∷ 45 ∷ 46 ∷ 47 ∷ 48 ∷ 49 ∷ 50 ∷ 51 ∷ 52 ∷ 53 ∷ 54 ∷ 55 ∷ 56 ∷ 57 ∷ 58 ∷ 59 ∷ 60 ∷ 61 ∷ []) ∷ Start 2 1 ∷ [])
-a_death_refills_behind_slow_tests = refl
+a_death_refills_after_slow_tests = refl
 
 -- nothing is taken from a worker that holds two: the idle one is shut down
 pub two_tests_are_not_stolen_from : journal_of (record of_two { mode = WorkSteal }) (Ready 0 ∷ Collected 0 (ids.List four_ids) ∷ Ready 1 ∷ Collected 1 ids.Same ∷ Done 0 0 Passed 5 [] ∷ [])

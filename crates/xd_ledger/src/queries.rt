@@ -4,7 +4,6 @@ ghost use Rattle.std.specs.List.{list_all};
 ghost use Rattle.xd_ledger.specs.Calls.{last_of};
 ghost use Rattle.xd_ledger.specs.Chains.{chain_at, chains_of, part_before, part_after, final_of};
 ghost use Rattle.xd_ledger.specs.Numbers.{among, first_of};
-ghost use Rattle.xd_ledger.specs.Posts.{chains_in};
 ghost use Rattle.xd_ledger.specs.Table.{has_joined, held, held_by_all, in_rota, seat_shut, workers_of};
 
 use crate::Ledger;

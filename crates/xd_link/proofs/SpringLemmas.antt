@@ -29,9 +29,6 @@ pub none_left : (old new : Option Supply) → Gave [] old new → IfSome old (λ
 none_left None new g n = subst (λ (o : Option Supply). IfSome o (λ s. s.left ≡ [])) (sym g.0) tt
 none_left (Some s) new g n = subst (λ (o : Option Supply). IfSome o (λ t. t.left ≡ [])) (sym g.0) n
 
-pub gave_end : (n : ℕ) (a into : List ℕ) (old mid new : Option Supply) → n ≡ 0 → Gave a old mid → Gave (take n into) mid new → Gave a old new
-gave_end n a into old mid new e x y = subst (λ (l : List ℕ). Gave l old new) (ap (λ (k : ℕ). a ++ take k into) e ∙ append-nil a) (gave_more a (take n into) old mid new x y)
-
 pub met_end : (n size : ℕ) (into : List ℕ) (old new : Option Supply) (ended0 ended1 : Bool) (faults : ℕ) → n ≡ 0 → 0 < size → Gave (take n into) old new → (is_end_of_input n size ≡ true → IfSome old (λ s. s.left ≡ [])) → ended1 ≡ (ended0 || is_end_of_input n size) → ReadToEnd (spring new ended1 faults)
 met_end n size into old new ended0 ended1 faults z some gave left ends =
     let end : is_end_of_input n size ≡ true = ap (λ (k : ℕ). is_end_of_input k size) z ∙ lower size some in

@@ -12,7 +12,7 @@ ghost use Rattle.xd_session.specs.Stands.{CanBegin, StandsFor};
 ghost use Rattle.xd_ledger.specs.State.{no_one};
 ghost use Rattle.std.specs.List.{list_all};
 ghost use Rattle.xd_group.specs.Children.{is_killed_and_reaped, told_of};
-ghost use Rattle.xd_linked.specs.Linked.{LinkedRun, RunsLinked, Setup, ended_link};
+ghost use Rattle.xd_linked.specs.Linked.{LinkedRun, RunsLinked, ended_link};
 
 use std::alloc::Global;
 use std::sync::Wait;

@@ -34,10 +34,10 @@ news_taken old new k item t = (
 )
 
 -- the inbox with the ring
-pub mail_behind : {T : Type 0} (mails : List (Option (Ring × List T))) (k : ℕ) (ring : Ring) (before : List LinkNews) (greeted : Bool) → slice_get (map ring_of_mail mails) k ≡ Some (Some (ring, before, greeted)) → (before ≡ []) × (greeted ≡ true) × ((got : List T) × (slice_get mails k ≡ Some (Some (ring, got))))
-mail_behind [] k ring before greeted e = absurd (cc e)
-mail_behind (None ∷ ms) zero ring before greeted e = absurd (cc e)
-mail_behind (Some m ∷ ms) zero ring before greeted e =
+pub mail_after : {T : Type 0} (mails : List (Option (Ring × List T))) (k : ℕ) (ring : Ring) (before : List LinkNews) (greeted : Bool) → slice_get (map ring_of_mail mails) k ≡ Some (Some (ring, before, greeted)) → (before ≡ []) × (greeted ≡ true) × ((got : List T) × (slice_get mails k ≡ Some (Some (ring, got))))
+mail_after [] k ring before greeted e = absurd (cc e)
+mail_after (None ∷ ms) zero ring before greeted e = absurd (cc e)
+mail_after (Some m ∷ ms) zero ring before greeted e =
     let none : List LinkNews = [] in
     let here : Fresh = (m.0, none, true) in
     let there : Fresh = (ring, before, greeted) in
@@ -46,7 +46,7 @@ mail_behind (Some m ∷ ms) zero ring before greeted e =
     let z : before ≡ [] = sym (ap (λ (q : Fresh). q.1) p) in
     let b : greeted ≡ true = sym (ap (λ (q : Fresh). q.2) p) in
     (z, b, (m.1, ap (λ (r : Ring). Some (Some (r, m.1))) f))
-mail_behind (m ∷ ms) (suc k) ring before greeted e = mail_behind ms k ring before greeted e
+mail_after (m ∷ ms) (suc k) ring before greeted e = mail_after ms k ring before greeted e
 
 set_last : {X : Type 0} (xs : List X) (x y : X) → set (xs ++ x ∷ []) (length xs) y ≡ xs ++ y ∷ []
 set_last [] x y = refl
@@ -73,7 +73,7 @@ rings_closed {H = H} {T = T} f old closed k links gone z n r =
 
 pub mail_of_link : {S H T : Type 0} (f : H → Reader S) (mails : List (Option (Ring × List T))) (links : List (Option H)) (k : ℕ) (link : H) (ring : Ring) → map ring_of_mail mails ≡ map (ring_of_link f) links → slice_get links k ≡ Some (Some link) → ring ≡ ring_of_sender (f link).sender → (put (f link).sender ≡ []) × ((f link).greeted ≡ true) × ((got : List T) × (slice_get mails k ≡ Some (Some (ring, got))))
 mail_of_link f mails links k link ring r at same =
-    mail_behind mails k ring (put (f link).sender) (f link).greeted
+    mail_after mails k ring (put (f link).sender) (f link).greeted
     (ap (λ (t : List (Option Fresh)). slice_get t k) r ∙ slice_get-map (ring_of_link f) links k ∙ ap (option_map (ring_of_link f)) at
     ∙ ap (λ (x : Ring). Some (Some (x, put (f link).sender, (f link).greeted))) (sym same))
 

@@ -12,7 +12,7 @@ use Rattle.xd_frame.specs.Message.{MessageView}
 use Rattle.xd_frame.specs.Stream.{header_in_front, messages, left_over, rest, rest_of, rest_by, Clean, Refused}
 use Rattle.xd_frame.proofs.Front.{err_front-append}
 use Rattle.xd_frame.proofs.Framers.{front_says}
-use Rattle.xd_frame.proofs.Streams.{behind-append, messages-append}
+use Rattle.xd_frame.proofs.Streams.{following-append, messages-append}
 use Rattle.xd_frame.specs.Writing.{CountAfter}
 use Rattle.xd_link.specs.Source.{Gave, Supply}
 use Rattle.xd_worker.specs.History.{HeardInput}
@@ -41,7 +41,7 @@ refused_front (b ∷ a) fault e = err_by (header_in_front (b ∷ a)) fault e
 pub refused_more : (a b : List ℕ) (fault : FrameFault) → rest a ≡ Refused fault → (messages (a ++ b) ≡ messages a) × (rest (a ++ b) ≡ Refused fault)
 refused_more a b fault e =
     let says = front_says (left_over a ++ b) (Err fault) (err_front-append (left_over a) b fault (refused_front (left_over a) fault e)) in
-    (messages-append a b ∙ (ap (λ (l : List MessageView). messages a ++ l) says.0 ∙ append-nil (messages a)), ap rest_of (behind-append a b) ∙ says.2)
+    (messages-append a b ∙ (ap (λ (l : List MessageView). messages a ++ l) says.0 ∙ append-nil (messages a)), ap rest_of (following-append a b) ∙ says.2)
 
 -- a message that is refused is so with more bytes after it
 pub to_refused_more : (a b : List ℕ) (taken : List MessageView) (h : List HeardInput) (fault : SideFault) → TookToRefused (messages a) taken h fault → TookToRefused (messages (a ++ b)) taken h fault

@@ -98,14 +98,14 @@ module _ (a : Setting) (now : Beside) (s : Seen) (item : LinkNews) (mails : List
     of_reader = c.of_reader ++ item ∷ [];
     of_runner = c.of_runner;
     left = c.left;
-    ahead = c.ahead;
+    preceding = c.preceding;
     later = c.later ++ item ∷ [];
     unheard = c.unheard;
     running = c.running;
     spoke = c.spoke;
     path_is = c.path_is;
     mails_are = e;
-    from_link = ap (λ (l : List LinkNews). l ++ item ∷ []) c.from_link ∙ (append_assoc (map news.Message (messages_in c.inputs)) (c.ahead ++ c.later) (item ∷ []) ∙ ap (λ (l : List LinkNews). map news.Message (messages_in c.inputs) ++ l) (append_assoc c.ahead c.later (item ∷ [])));
+    from_link = ap (λ (l : List LinkNews). l ++ item ∷ []) c.from_link ∙ (append_assoc (map news.Message (messages_in c.inputs)) (c.preceding ++ c.later) (item ∷ []) ∙ ap (λ (l : List LinkNews). map news.Message (messages_in c.inputs) ++ l) (append_assoc c.preceding c.later (item ∷ [])));
     cause = c.cause;
     noted = noted_next s.link_stop c.of_reader item c.noted;
     from_programs = c.from_programs;
@@ -125,7 +125,7 @@ module _ (a : Setting) (now : Beside) (s : Seen) (item : LinkNews) (mails : List
     of_reader = c.of_reader;
     of_runner = c.of_runner ++ item ∷ [];
     left = c.left;
-    ahead = c.ahead;
+    preceding = c.preceding;
     later = c.later;
     unheard = c.unheard ++ item ∷ [];
     running = c.running;

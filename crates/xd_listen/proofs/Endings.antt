@@ -36,7 +36,7 @@ use Rattle.xd_edge.specs.Clock.{Ticking}
 use Rattle.xd_listen.specs.Timing.{Times}
 use Rattle.xd_listen.specs.Spoke.{Spoke, Voice, voice}
 use Rattle.xd_listen.proofs.Counting.{dones-append}
-use Rattle.xd_listen.proofs.Puts.{Fronts, end_behind, fronts, message_behind}
+use Rattle.xd_listen.proofs.Puts.{Fronts, end_is_there, fronts, message_is_there}
 use Rattle.xd_listen.proofs.Tellings.{rose_earlier, rose_later}
 use Rattle.xd_listen.proofs.Rans.{count_rans, last_done, rans, rans-append, rans_in, rans_of, unheard_is}
 
@@ -248,20 +248,20 @@ module _ (a : Setting) (now : Beside) (s : Seen) (before : Sources) (old new : S
   abbrev ms : List MessageView
   ms = messages_in c.inputs
 
-  all : map news.Message reads.put ++ news.End reads.stop ∷ [] ≡ map news.Message ms ++ (c.ahead ++ (c.later ++ more0))
-  all = sym reads.comes ∙ (taken ∙ (ap (λ (l : List LinkNews). l ++ more0) c.from_link ∙ (append_assoc (map news.Message ms) (c.ahead ++ c.later) more0 ∙ ap (λ (l : List LinkNews). map news.Message ms ++ l) (append_assoc c.ahead c.later more0))))
+  all : map news.Message reads.put ++ news.End reads.stop ∷ [] ≡ map news.Message ms ++ (c.preceding ++ (c.later ++ more0))
+  all = sym reads.comes ∙ (taken ∙ (ap (λ (l : List LinkNews). l ++ more0) c.from_link ∙ (append_assoc (map news.Message ms) (c.preceding ++ c.later) more0 ∙ ap (λ (l : List LinkNews). map news.Message ms ++ l) (append_assoc c.preceding c.later more0))))
 
   put_is : reads.put ≡ messages bytes
   put_is = reads.reads.all
 
   begins : IsFirstOf ms (messages bytes)
-  begins = let f = fronts ms reads.put (c.ahead ++ (c.later ++ more0)) reads.stop all in (f.rest, sym put_is ∙ f.all_is)
+  begins = let f = fronts ms reads.put (c.preceding ++ (c.later ++ more0)) reads.stop all in (f.rest, sym put_is ∙ f.all_is)
 
-  behind : (ahead : List LinkNews) → c.ahead ≡ ahead → map news.Message reads.put ++ news.End reads.stop ∷ [] ≡ map news.Message ms ++ (ahead ++ (c.later ++ more0))
-  behind ahead e = all ∙ ap (λ (l : List LinkNews). map news.Message ms ++ (l ++ (c.later ++ more0))) e
+  following : (preceding : List LinkNews) → c.preceding ≡ preceding → map news.Message reads.put ++ news.End reads.stop ∷ [] ≡ map news.Message ms ++ (preceding ++ (c.later ++ more0))
+  following preceding e = all ∙ ap (λ (l : List LinkNews). map news.Message ms ++ (l ++ (c.later ++ more0))) e
 
-  at_end : (l : LinkStop) → c.ahead ≡ news.End l ∷ [] → has_terminate ms ≡ false → TookAll (messages bytes) ms × (l ≡ reads.stop)
-  at_end l e none = let b = end_behind ms reads.put (c.later ++ more0) l reads.stop (behind (news.End l ∷ []) e) in (record { all_are = sym b.0 ∙ put_is; none_is = none }, b.1)
+  at_end : (l : LinkStop) → c.preceding ≡ news.End l ∷ [] → has_terminate ms ≡ false → TookAll (messages bytes) ms × (l ≡ reads.stop)
+  at_end l e none = let b = end_is_there ms reads.put (c.later ++ more0) l reads.stop (following (news.End l ∷ []) e) in (record { all_are = sym b.0 ∙ put_is; none_is = none }, b.1)
 
   stops : (l : LinkStop) → l ≡ reads.stop → StopsAt l false bytes s0 s1
   stops l e = subst (λ (x : LinkStop). StopsAt x false bytes s0 s1) (sym e) reads.reads.cause
@@ -350,7 +350,7 @@ module _ (a : Setting) (now : Beside) (s : Seen) (before : Sources) (old new : S
       by link.ReadFault r = ends_so stop.ReadFault (whole_by stop.Terminated e refl z) (λ q. cc) (three stop.ReadFault refl) (inr t.0, r)
       by link.OutOfMemory r = well r
 
-  ended_by : (w : Stop) → w ≡ why → closed ≡ true → Ceases w c.inputs c.history c.ahead → Ends (last_link_stop true w reads.stop) a.held s0 s1 old new
+  ended_by : (w : Stop) → w ≡ why → closed ≡ true → Ceases w c.inputs c.history c.preceding → Ends (last_link_stop true w reads.stop) a.held s0 s1 old new
   ended_by stop.NotRun e z x = absurd x
   ended_by stop.Terminated e z x = terminated e z x reads.stop refl
   ended_by stop.Ended e z x =
@@ -366,7 +366,7 @@ module _ (a : Setting) (now : Beside) (s : Seen) (before : Sources) (old new : S
       let r = stops (link.Garbled f) t.1 in
       ends_so (stop.Header f) (whole_by (stop.Header f) e refl z) (λ q. cc) (three (stop.Header f) refl) (t.0, refused_by (rest bytes) f r.0)
   ended_by (stop.Message f) e z x =
-      let b = message_behind ms reads.put x.0 (c.later ++ more0) reads.stop (behind (news.Message x.0 ∷ []) x.1) in
+      let b = message_is_there ms reads.put x.0 (c.later ++ more0) reads.stop (following (news.Message x.0 ∷ []) x.1) in
       ends_so (stop.Message f) (whole_by (stop.Message f) e refl z) (λ q. cc) (three (stop.Message f) refl)
       (record { refused = x.0; later = b.0; all_are = sym put_is ∙ b.1; none_is = x.2; why = x.4 }, x.3)
   ended_by stop.ReadFault e z x =
@@ -423,7 +423,7 @@ pub not_strayed : (a : Setting) (s : Seen) (x : Strayed a s) (s0 s1 : Spring) (p
 not_strayed a s x s0 s1 put more0 more1 runner_put runs0 runs1 faults0 faults1 reads taken taken1 ran = by x.strays
   where
     strange : (item : LinkNews) (later : List LinkNews) → IsStrange item → x.of_reader ≡ map news.Message x.messages ++ item ∷ later → ⊥
-    strange item later odd e = go f.rest f.behind_is
+    strange item later odd e = go f.rest f.following_is
       where
         all : map news.Message reads.put ++ news.End reads.stop ∷ [] ≡ map news.Message x.messages ++ (item ∷ (later ++ more0))
         all = sym reads.comes ∙ (taken ∙ (ap (λ (l : List LinkNews). l ++ more0) e ∙ append_assoc (map news.Message x.messages) (item ∷ later) more0))

@@ -6,7 +6,7 @@ use Rattle.xd_edge.specs.Faults.{Rose}
 use Rattle.xd_edge.specs.Files.{Held}
 use Rattle.xd_edge.specs.Sink.{Sunk}
 use Rattle.xd_frame.specs.Message.{MessageView, frames}
-use Rattle.xd_frame.specs.Writing.{CountBehind, WritesMore}
+use Rattle.xd_frame.specs.Writing.{CountSince, WritesMore}
 use Rattle.xd_journal.specs.declared.entry.Outcome.{Outcome}
 use Rattle.xd_reader.specs.declared.news.LinkNews.{LinkNews}
 use Rattle.xd_reader.specs.declared.news.LinkNews.TheVariants as news
@@ -31,7 +31,7 @@ use Rattle.xd_listen.proofs.Steps.{Does, Plain, Prints, Ready, Step, end_does, l
 use Rattle.xd_listen.proofs.Tellings.{answered_later, count_more, rose_later, speaks_more}
 use Rattle.xd_listen.specs.declared.server.Door.{Door}
 use Rattle.xd_listen.specs.declared.server.Door.TheVariants as door
-use Rattle.xd_listen.specs.Halts.{door_behind}
+use Rattle.xd_listen.specs.Halts.{door_after}
 use Rattle.xd_listen.specs.News.{dones, news_of_input, news_in}
 use Rattle.xd_listen.specs.Seen.{Seen, is_door_shut}
 use Rattle.xd_listen.specs.Serves.{Beside, beside, FromLink, IsBusy, IsListening, ReadsSo, RunsSo, ServesSoFar, Setting, owed_of_link, of_program, to_start}
@@ -49,7 +49,7 @@ spoken core broken sunk faults s = record s { core = core; broken = broken; sunk
 -- what an input adds
 pub spoke_more : (held : Option Held) (inputs : List WorkerInput) (h : List HeardInput) (b0 b1 : Bool) (first v0 v1 : Voice) (core : WorkerCore) (i : WorkerInput) (acts : WorkerActions)
     → b0 ≡ false → Spoke held inputs h (not b0) first v0 → (a : Answers core (worker_after h) i acts) → IsDue (worker_after h) i → AnswersAsking held (Rose first.file_faults v1.file_faults) (asked_path h) i
-    → (is_of_link i ≡ true → has_end inputs ≡ false) → WritesMore b0 b1 (frames acts.say) v0.sunk v1.sunk → CountBehind b0 b1 v0.sink_faults v1.sink_faults → v0.sink_faults ≤ v1.sink_faults → v0.file_faults ≤ v1.file_faults
+    → (is_of_link i ≡ true → has_end inputs ≡ false) → WritesMore b0 b1 (frames acts.say) v0.sunk v1.sunk → CountSince b0 b1 v0.sink_faults v1.sink_faults → v0.sink_faults ≤ v1.sink_faults → v0.file_faults ≤ v1.file_faults
     → Spoke held (i ∷ inputs) (a.heard ∷ h) (not b1) first v1
 spoke_more held inputs h b0 b1 first v0 v1 core i acts whole t a due follows once writes count later files = record {
   heard = (record { is = a.is; counts = a.counts; due = due }, t.heard);
@@ -86,17 +86,17 @@ runs_now started left w e r = subst (λ (l : List (List (List ℕ))). RunsSo sta
 
 -- ---- messages
 
-shut_behind : (b : Bool) (d : Door) → d ≡ door.Open → b ≡ is_door_shut (door_behind b d)
-shut_behind true d e = refl
-shut_behind false d e = sym (ap is_door_shut e)
+shut_after : (b : Bool) (d : Door) → d ≡ door.Open → b ≡ is_door_shut (door_after b d)
+shut_after true d e = refl
+shut_after false d e = sym (ap is_door_shut e)
 
 -- a message does this to the test that runs, and to what is read
 record Did (started : Option ℕ) (last : Bool) (d : Door) (u : WorkerTurn) : Type 0 where
   runs : RunsSo started (commands_of u) (after_turn u)
   stopped : u.duties.stopped ≡ last
-  reads : ReadsSo u.suite started (commands_of u) (door_behind last d) (after_turn u)
+  reads : ReadsSo u.suite started (commands_of u) (door_after last d) (after_turn u)
 
-reads_by : (p : Option (List ℕ)) (b : Bool) (d : Door) (u : WorkerTurn) → d ≡ door.Open → u.suite ≡ p → Does b u → ReadsSo p None (commands_of u) (door_behind b d) (after_turn u)
+reads_by : (p : Option (List ℕ)) (b : Bool) (d : Door) (u : WorkerTurn) → d ≡ door.Open → u.suite ≡ p → Does b u → ReadsSo p None (commands_of u) (door_after b d) (after_turn u)
 reads_by None b d u o e x = tt
 reads_by (Some path) true d u o e x = let z = sym (x.ends refl).1 ∙ e in cc
 reads_by (Some path) false d u o e x = ((x.path path e).1, refl, no_commands u (x.path path e).0, o)
@@ -108,7 +108,7 @@ did_busy : (moment : ℕ) (b : Bool) (d : Door) (u : WorkerTurn) (test : ℕ) �
 did_busy moment b d u test x = record {
   runs = kept_runs moment u test x.test x.busy x.run;
   stopped = x.stopped;
-  reads = subst (λ (p : Option (List ℕ)). ReadsSo p (Some moment) (commands_of u) (door_behind b d) (after_turn u)) (sym x.suite) tt;
+  reads = subst (λ (p : Option (List ℕ)). ReadsSo p (Some moment) (commands_of u) (door_after b d) (after_turn u)) (sym x.suite) tt;
 }
 
 keeps_message : (w : Worker) (m : MessageView) (c : Came) (k n : ℕ) → MessageSays m c → running_test (call_of_service w.duties.service) ≡ Some n → rests (call_of_service w.duties.service).phase ≡ false → w.duties.stopped ≡ false → Keeps n (is_terminate_kind m.kind) (worker_turned c k (worker_turn_of w))
@@ -124,8 +124,8 @@ message_did None w m g d is o u r = did_idle (is_terminate_kind m.kind) d (turn_
 message_did (Some moment) w m g d is o u r = did_busy moment (is_terminate_kind m.kind) d (turn_by w g) r.test (keeps_message w m g.came g.channels r.test is r.runs r.busy u)
 
 -- the items of the reader after a message
-link_behind : (b : Bool) (m : MessageView) (d : Door) (inputs : List WorkerInput) (got : List LinkNews) → d ≡ door.Open → is_terminate_kind m.kind ≡ b → FromLink d inputs got → FromLink (door_behind b d) (Message m ∷ inputs) (got ++ news.Message m ∷ [])
-link_behind b m d inputs got o e f = by b e
+link_after : (b : Bool) (m : MessageView) (d : Door) (inputs : List WorkerInput) (got : List LinkNews) → d ≡ door.Open → is_terminate_kind m.kind ≡ b → FromLink d inputs got → FromLink (door_after b d) (Message m ∷ inputs) (got ++ news.Message m ∷ [])
+link_after b m d inputs got o e f = by b e
   where
     x : IsListening inputs got
     x = subst (λ (d : Door). FromLink d inputs got) o f
@@ -133,7 +133,7 @@ link_behind b m d inputs got o e f = by b e
     more : got ++ news.Message m ∷ [] ≡ map news.Message (messages_in inputs ++ m ∷ [])
     more = ap (λ (l : List LinkNews). l ++ news.Message m ∷ []) x.got_is ∙ sym (map-append news.Message (messages_in inputs) (m ∷ []))
 
-    by : (c : Bool) → is_terminate_kind m.kind ≡ c → FromLink (door_behind c d) (Message m ∷ inputs) (got ++ news.Message m ∷ [])
+    by : (c : Bool) → is_terminate_kind m.kind ≡ c → FromLink (door_after c d) (Message m ∷ inputs) (got ++ news.Message m ∷ [])
     by true h = record {
       later = [];
       got_is = more ∙ sym (append-nil (map news.Message (messages_in inputs ++ m ∷ [])));
@@ -144,9 +144,9 @@ link_behind b m d inputs got o e f = by b e
         (record { got_is = more; none_last = none_more (messages_in inputs) m x.none_last h; no_end = x.no_end })
 
 module _ (a : Setting) (now : Beside) (s : Seen) (core : WorkerCore) (broken : Bool) (sunk : Option Sunk) (faults : ℕ) (acts : WorkerActions)
-    (writes : WritesMore s.broken broken (frames acts.say) s.sunk sunk) (count : CountBehind s.broken broken s.sink_faults faults) (later : s.sink_faults ≤ faults) where
+    (writes : WritesMore s.broken broken (frames acts.say) s.sunk sunk) (count : CountSince s.broken broken s.sink_faults faults) (later : s.sink_faults ≤ faults) where
   pub message_heard : (m : MessageView) (last : Bool) → is_terminate_kind m.kind ≡ last → s.door ≡ door.Open → ((h : List HeardInput) → StandsFor s.core h → Answers core (worker_after h) (Message m) acts)
-      → ServesSoFar a now (owed_of_link (news.Message m)) s → ServesSoFar a now (to_start acts.suite) (record (spoken core broken sunk faults s) { door = door_behind last s.door })
+      → ServesSoFar a now (owed_of_link (news.Message m)) s → ServesSoFar a now (to_start acts.suite) (record (spoken core broken sunk faults s) { door = door_after last s.door })
   message_heard m last e o answers g =
       let h = g.history in
       let w = worker_after h in
@@ -166,7 +166,7 @@ module _ (a : Setting) (now : Beside) (s : Seen) (core : WorkerCore) (broken : B
         stands = x.worker;
         path_is = sym x.suite;
         mails_are = g.mails_are;
-        from_link = link_behind last m s.door g.inputs g.of_reader o e g.from_link;
+        from_link = link_after last m s.door g.inputs g.of_reader o e g.from_link;
         noted = g.noted;
         from_programs = g.from_programs ∙ sym (append-nil (news_in g.inputs));
         commands = more_commands h x.heard s.orders g.left g.commands (g.settled refl);
@@ -178,8 +178,8 @@ module _ (a : Setting) (now : Beside) (s : Seen) (core : WorkerCore) (broken : B
         some = g.some;
         ring = g.ring;
         runs = d.runs;
-        reads = subst (λ (p : Option (List ℕ)). ReadsSo p s.started (commands_of u) (door_behind last s.door) (after_turn u)) (sym x.suite) d.reads;
-        stopped = d.stopped ∙ shut_behind last s.door o;
+        reads = subst (λ (p : Option (List ℕ)). ReadsSo p s.started (commands_of u) (door_after last s.door) (after_turn u)) (sym x.suite) d.reads;
+        stopped = d.stopped ∙ shut_after last s.door o;
       }
 
   -- the link's end

@@ -19,22 +19,22 @@ message_is : (m n : MessageView) (xs ys : List LinkNews) → news.Message m ∷ 
 message_is m n xs ys e = cc
 
 -- Messages and what is after them, against messages and one end.
-pub record Fronts (ms all : List MessageView) (behind : List LinkNews) (why : LinkStop) : Type 0 where
+pub record Fronts (ms all : List MessageView) (following : List LinkNews) (why : LinkStop) : Type 0 where
   pub rest : List MessageView
   pub all_is : all ≡ ms ++ rest
-  pub behind_is : behind ≡ map news.Message rest ++ news.End why ∷ []
+  pub following_is : following ≡ map news.Message rest ++ news.End why ∷ []
 
-pub fronts : (ms all : List MessageView) (behind : List LinkNews) (why : LinkStop) → map news.Message all ++ news.End why ∷ [] ≡ map news.Message ms ++ behind → Fronts ms all behind why
-fronts [] all behind why e = record { rest = all; all_is = refl; behind_is = sym e }
-fronts (m ∷ ms) [] behind why e = cc
-fronts (m ∷ ms) (n ∷ all) behind why e =
-    let f = fronts ms all behind why (tail_is (news.Message n) (news.Message m) (map news.Message all ++ news.End why ∷ []) (map news.Message ms ++ behind) e) in
-    let s = message_is n m (map news.Message all ++ news.End why ∷ []) (map news.Message ms ++ behind) e in
-    record { rest = f.rest; all_is = ap (λ (x : MessageView). x ∷ all) s ∙ ap (λ (l : List MessageView). m ∷ l) f.all_is; behind_is = f.behind_is }
+pub fronts : (ms all : List MessageView) (following : List LinkNews) (why : LinkStop) → map news.Message all ++ news.End why ∷ [] ≡ map news.Message ms ++ following → Fronts ms all following why
+fronts [] all following why e = record { rest = all; all_is = refl; following_is = sym e }
+fronts (m ∷ ms) [] following why e = cc
+fronts (m ∷ ms) (n ∷ all) following why e =
+    let f = fronts ms all following why (tail_is (news.Message n) (news.Message m) (map news.Message all ++ news.End why ∷ []) (map news.Message ms ++ following) e) in
+    let s = message_is n m (map news.Message all ++ news.End why ∷ []) (map news.Message ms ++ following) e in
+    record { rest = f.rest; all_is = ap (λ (x : MessageView). x ∷ all) s ∙ ap (λ (l : List MessageView). m ∷ l) f.all_is; following_is = f.following_is }
 
 -- after the messages stands an end
-pub end_behind : (ms all : List MessageView) (later : List LinkNews) (stop why : LinkStop) → map news.Message all ++ news.End why ∷ [] ≡ map news.Message ms ++ (news.End stop ∷ later) → (all ≡ ms) × (stop ≡ why)
-end_behind ms all later stop why e = by f.rest f.all_is f.behind_is
+pub end_is_there : (ms all : List MessageView) (later : List LinkNews) (stop why : LinkStop) → map news.Message all ++ news.End why ∷ [] ≡ map news.Message ms ++ (news.End stop ∷ later) → (all ≡ ms) × (stop ≡ why)
+end_is_there ms all later stop why e = by f.rest f.all_is f.following_is
   where
     f : Fronts ms all (news.End stop ∷ later) why
     f = fronts ms all (news.End stop ∷ later) why e
@@ -44,8 +44,8 @@ end_behind ms all later stop why e = by f.rest f.all_is f.behind_is
     by (m ∷ rest) a b = cc
 
 -- after the messages stands another
-pub message_behind : (ms all : List MessageView) (m : MessageView) (later : List LinkNews) (why : LinkStop) → map news.Message all ++ news.End why ∷ [] ≡ map news.Message ms ++ (news.Message m ∷ later) → (rest : List MessageView) × (all ≡ ms ++ m ∷ rest)
-message_behind ms all m later why e = by f.rest f.all_is f.behind_is
+pub message_is_there : (ms all : List MessageView) (m : MessageView) (later : List LinkNews) (why : LinkStop) → map news.Message all ++ news.End why ∷ [] ≡ map news.Message ms ++ (news.Message m ∷ later) → (rest : List MessageView) × (all ≡ ms ++ m ∷ rest)
+message_is_there ms all m later why e = by f.rest f.all_is f.following_is
   where
     f : Fronts ms all (news.Message m ∷ later) why
     f = fronts ms all (news.Message m ∷ later) why e

@@ -121,11 +121,11 @@ some_done : (x : LinkNews) (more : List LinkNews) → EndsDone (x ∷ more) → 
 some_done x [] d = omega (arith, d)
 some_done x (y ∷ more) d = let e = some_done y more d in let f = dones-append (x ∷ []) (y ∷ more) in omega (arith, e, f)
 
-behind : (ns : List LinkNews) (x : LinkNews) (more : List LinkNews) → EndsDone (ns ++ x ∷ more) → EndsDone (x ∷ more)
-behind [] x more d = d
-behind (n ∷ []) x more d = d
-behind (n ∷ (m ∷ ns)) x more d = behind (m ∷ ns) x more d
+following : (ns : List LinkNews) (x : LinkNews) (more : List LinkNews) → EndsDone (ns ++ x ∷ more) → EndsDone (x ∷ more)
+following [] x more d = d
+following (n ∷ []) x more d = d
+following (n ∷ (m ∷ ns)) x more d = following (m ∷ ns) x more d
 
 -- the last of what a runner put is the end of a program
 pub last_done : (ps : List ToldOfProgram) (ns : List LinkNews) (x : LinkNews) (more : List LinkNews) → news_of_programs ps ≡ ns ++ x ∷ more → 1 ≤ dones (x ∷ more)
-last_done ps ns x more e = some_done x more (behind ns x more (subst EndsDone e (ends ps)))
+last_done ps ns x more e = some_done x more (following ns x more (subst EndsDone e (ends ps)))

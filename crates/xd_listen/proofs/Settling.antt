@@ -154,14 +154,14 @@ module _ (a : Setting) (now : Beside) (s : Seen) where
       over : is_door_shut s.door ≡ true → is_over (worker_after g.history) ≡ true
       over e = over_if (worker_after g.history) (g.stopped ∙ e) (none g.history g.stands)
 
-      ceased : (why : Stop) (ahead later : List LinkNews) → is_sink_whole why ≡ true → g.of_reader ≡ map news.Message (messages_in g.inputs) ++ (ahead ++ later) → Ceases why g.inputs g.history ahead → Ceased a now why s
-      ceased why ahead later w link cause = record {
+      ceased : (why : Stop) (preceding later : List LinkNews) → is_sink_whole why ≡ true → g.of_reader ≡ map news.Message (messages_in g.inputs) ++ (preceding ++ later) → Ceases why g.inputs g.history preceding → Ceased a now why s
+      ceased why preceding later w link cause = record {
         inputs = g.inputs;
         history = g.history;
         of_reader = g.of_reader;
         of_runner = g.of_runner;
         left = [];
-        ahead = ahead;
+        preceding = preceding;
         later = later;
         unheard = [];
         running = 0;
@@ -202,7 +202,7 @@ module _ (a : Setting) (now : Beside) (s : Seen) where
         of_reader = g.of_reader;
         of_runner = g.of_runner;
         left = g.left;
-        ahead = [];
+        preceding = [];
         later = l.0;
         unheard = [];
         running = one_if s.started;
@@ -234,8 +234,8 @@ module _ (a : Setting) (now : Beside) (s : Seen) where
       at_most (Some m) = omega arith
 
   -- a message is refused, or the link cannot be read on
-  ceased_ahead : (why : Stop) (item : LinkNews) → is_sink_whole why ≡ true → worker_status_of why ≡ 3 → s.door ≡ door.Open → (g : ServesSoFar a now (owed_of_link item) s) → Ceases why g.inputs g.history (item ∷ []) → Ceased a now why s
-  ceased_ahead why item w three o g cause =
+  ceased_before : (why : Stop) (item : LinkNews) → is_sink_whole why ≡ true → worker_status_of why ≡ 3 → s.door ≡ door.Open → (g : ServesSoFar a now (owed_of_link item) s) → Ceases why g.inputs g.history (item ∷ []) → Ceased a now why s
+  ceased_before why item w three o g cause =
       let x : IsListening g.inputs g.of_reader = subst (λ (d : Door). FromLink d g.inputs g.of_reader) o g.from_link in
       record {
         inputs = g.inputs;
@@ -243,7 +243,7 @@ module _ (a : Setting) (now : Beside) (s : Seen) where
         of_reader = g.of_reader ++ item ∷ [];
         of_runner = g.of_runner;
         left = [];
-        ahead = item ∷ [];
+        preceding = item ∷ [];
         later = [];
         unheard = [];
         running = one_if s.started;
@@ -272,12 +272,12 @@ module _ (a : Setting) (now : Beside) (s : Seen) where
   pub end_ceases : (why : Stop) (stop : LinkStop) → is_sink_whole why ≡ true → worker_status_of why ≡ 3 → s.door ≡ door.Open → ((inputs : List WorkerInput) (h : List HeardInput) → has_terminate (messages_in inputs) ≡ false → Ceases why inputs h (news.End stop ∷ [])) → ServesSoFar a now (owed_of_link (news.End stop)) s → Ceased a now why s
   end_ceases why stop w three o cause g =
       let x : IsListening g.inputs g.of_reader = subst (λ (d : Door). FromLink d g.inputs g.of_reader) o g.from_link in
-      ceased_ahead why (news.End stop) w three o g (cause g.inputs g.history x.none_last)
+      ceased_before why (news.End stop) w three o g (cause g.inputs g.history x.none_last)
 
   pub message_ceases : (m : MessageView) (f : WorkerFault) → s.door ≡ door.Open → ((h : List HeardInput) → StandsFor s.core h → FaultHasReason (worker_after h) (Message m) f) → ServesSoFar a now (owed_of_link (news.Message m)) s → CeasesBy f a now s
   message_ceases m (fault.Link f) o refused g =
       let x : IsListening g.inputs g.of_reader = subst (λ (d : Door). FromLink d g.inputs g.of_reader) o g.from_link in
-      ceased_ahead (stop.Message f) (news.Message m) refl refl o g (m, refl, x.none_last, x.no_end, refused g.history g.stands)
+      ceased_before (stop.Message f) (news.Message m) refl refl o g (m, refl, x.none_last, x.no_end, refused g.history g.stands)
   message_ceases m fault.OutOfMemory o refused g = tt
 
   -- the core is at fault, and the rest as it was
@@ -290,7 +290,7 @@ module _ (a : Setting) (now : Beside) (s : Seen) where
     of_reader = g.of_reader;
     of_runner = g.of_runner;
     left = g.left;
-    ahead = g.ahead;
+    preceding = g.preceding;
     later = g.later;
     unheard = g.unheard;
     running = g.running;

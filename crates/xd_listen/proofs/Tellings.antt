@@ -6,7 +6,7 @@ use Rattle.xd_edge.specs.Files.{Held}
 use Rattle.xd_edge.specs.Sink.{Sunk, Printed, PrintedPart}
 use Rattle.xd_edge.proofs.SinkLemmas.{printed_more}
 use Rattle.xd_frame.specs.Message.{MessageView, frame, frames}
-use Rattle.xd_frame.specs.Writing.{CountAfter, CountBehind, WritesMore}
+use Rattle.xd_frame.specs.Writing.{CountAfter, CountSince, WritesMore}
 use Rattle.xd_worker.specs.declared.input.WorkerInput.{WorkerInput}
 use Rattle.xd_worker.specs.declared.input.WorkerInput.TheVariants.{Message, SuiteBytes, SuiteTooLarge, SuiteUnread, Output, ChildDone, LinkEnd}
 use Rattle.xd_worker.specs.History.{HeardInput, all_said, turn_by, worker_after}
@@ -39,7 +39,7 @@ speaks_more false false h g bytes first mid new whole is s m =
     subst (λ (l : List ℕ). Printed l first new) (ap (λ (l : List ℕ). written (all_said h) ++ l) is ∙ sym (written_more (all_said h) says)) (printed_more (written (all_said h)) bytes first mid new s m)
 
 -- the count of a sink after what was written next
-pub count_more : (b0 b1 : Bool) (a b c : ℕ) → CountAfter (not b0) a b → CountBehind b0 b1 b c → CountAfter (not b1) a c
+pub count_more : (b0 b1 : Bool) (a b c : ℕ) → CountAfter (not b0) a b → CountSince b0 b1 b c → CountAfter (not b1) a c
 count_more true true a b c x y = subst (λ (n : ℕ). Rose a n) (sym y.1) x
 count_more true false a b c x y = let z = y.0 in cc
 count_more false true a b c x y = subst (λ (n : ℕ). Rose n c) x y

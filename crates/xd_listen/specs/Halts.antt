@@ -53,14 +53,14 @@ is_sink_whole stop.WriteFault = false
 
 -- what is known of the messages that the worker heard, and of the item after them, where it listens no more
 abbrev pub Ceases : Stop → List WorkerInput → List HeardInput → List LinkNews → Type 0
-Ceases stop.NotRun inputs h ahead = ⊥
-Ceases stop.Terminated inputs h ahead = TookToLast (messages_in inputs) × (has_end inputs ≡ false) × (is_over (worker_after h) ≡ true)
-Ceases stop.Ended inputs h ahead = (ahead ≡ news.End link.Ended ∷ []) × (has_terminate (messages_in inputs) ≡ false) × (has_end inputs ≡ true) × (is_over (worker_after h) ≡ true)
-Ceases stop.Cut inputs h ahead = (ahead ≡ news.End link.Cut ∷ []) × (has_terminate (messages_in inputs) ≡ false)
-Ceases (stop.Header fault) inputs h ahead = (ahead ≡ news.End (link.Garbled fault) ∷ []) × (has_terminate (messages_in inputs) ≡ false)
-Ceases (stop.Message fault) inputs h ahead = (m : MessageView) × (ahead ≡ news.Message m ∷ []) × (has_terminate (messages_in inputs) ≡ false) × (has_end inputs ≡ false) × RefusesFor (worker_after h) (Message m) fault
-Ceases stop.ReadFault inputs h ahead = (ahead ≡ news.End link.ReadFault ∷ []) × (has_terminate (messages_in inputs) ≡ false)
-Ceases stop.WriteFault inputs h ahead = Unit {0}
+Ceases stop.NotRun inputs h preceding = ⊥
+Ceases stop.Terminated inputs h preceding = TookToLast (messages_in inputs) × (has_end inputs ≡ false) × (is_over (worker_after h) ≡ true)
+Ceases stop.Ended inputs h preceding = (preceding ≡ news.End link.Ended ∷ []) × (has_terminate (messages_in inputs) ≡ false) × (has_end inputs ≡ true) × (is_over (worker_after h) ≡ true)
+Ceases stop.Cut inputs h preceding = (preceding ≡ news.End link.Cut ∷ []) × (has_terminate (messages_in inputs) ≡ false)
+Ceases (stop.Header fault) inputs h preceding = (preceding ≡ news.End (link.Garbled fault) ∷ []) × (has_terminate (messages_in inputs) ≡ false)
+Ceases (stop.Message fault) inputs h preceding = (m : MessageView) × (preceding ≡ news.Message m ∷ []) × (has_terminate (messages_in inputs) ≡ false) × (has_end inputs ≡ false) × RefusesFor (worker_after h) (Message m) fault
+Ceases stop.ReadFault inputs h preceding = (preceding ≡ news.End link.ReadFault ∷ []) × (has_terminate (messages_in inputs) ≡ false)
+Ceases stop.WriteFault inputs h preceding = Unit {0}
 
 -- The worker listens no more, and this is why. More items may have been taken since. `running` says how many programs
 -- ran when it ceased: one, or none.
@@ -70,15 +70,15 @@ pub record Ceased (a : Setting) (now : Beside) (why : Stop) (s : Seen) : Type 0 
   pub of_reader : List LinkNews
   pub of_runner : List LinkNews
   pub left : List (List (List ℕ))
-  pub ahead : List LinkNews
+  pub preceding : List LinkNews
   pub later : List LinkNews
   pub unheard : List LinkNews
   pub running : ℕ
   pub spoke : Spoke a.held inputs history (is_sink_whole why) a.first (voice s.sunk s.sink_faults now.file_faults)
   pub path_is : is_sink_whole why ≡ true → asked_path history ≡ None
   pub mails_are : s.mails ≡ two a of_reader of_runner
-  pub from_link : of_reader ≡ map news.Message (messages_in inputs) ++ (ahead ++ later)
-  pub cause : Ceases why inputs history ahead
+  pub from_link : of_reader ≡ map news.Message (messages_in inputs) ++ (preceding ++ later)
+  pub cause : Ceases why inputs history preceding
   pub noted : IsEndTaken s.link_stop of_reader
   pub from_programs : of_runner ≡ news_in inputs ++ unheard
   pub commands : commands_in history ≡ s.orders ++ left
@@ -137,9 +137,9 @@ CeasesBy (fault.Link f) a now s = Ceased a now (stop.Message f) s
 CeasesBy fault.OutOfMemory a now s = Unit {0}
 
 -- whether messages are still taken after one that is GATEWAY_TERMINATE, or is not
-abbrev pub door_behind : Bool → Door → Door
-door_behind true d = door.Terminated
-door_behind false d = d
+abbrev pub door_after : Bool → Door → Door
+door_after true d = door.Terminated
+door_after false d = d
 
 -- why no more is taken, where GATEWAY_TERMINATE or the link's end came
 abbrev pub over_by : Door → Option Halt

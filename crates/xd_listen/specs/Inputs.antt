@@ -8,7 +8,7 @@ use Rattle.xd_worker.specs.declared.input.WorkerInput.{WorkerInput}
 use Rattle.xd_worker.specs.declared.input.WorkerInput.TheVariants.{Message, SuiteBytes, SuiteTooLarge, SuiteUnread, Output, ChildDone, LinkEnd}
 use Rattle.xd_factory.specs.SideTable.{Counts}
 use Rattle.xd_worker.specs.Worker.{Worker, running_in}
-use Rattle.xd_worker.specs.History.{HeardInput, Is, table_behind, worker_after}
+use Rattle.xd_worker.specs.History.{HeardInput, Is, table_after, worker_after}
 
 -- An input comes in its time: of a suite only while one is owed, and of a program only while a test runs, in pieces of
 -- at most 4,096 bytes.
@@ -24,7 +24,7 @@ IsDue w LinkEnd = Unit {0}
 -- an input that came to this worker, and what its history has of it
 pub record IsHeard (w : Worker) (input : WorkerInput) (g : HeardInput) : Type 0 where
   pub is : Is input g.came
-  pub counts : Counts (table_behind g.came w.table).slot g.channels
+  pub counts : Counts (table_after g.came w.table).slot g.channels
   pub due : IsDue w input
 
 -- The history is that of these inputs.

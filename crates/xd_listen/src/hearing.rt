@@ -1,7 +1,7 @@
 // What a server takes, one item after another.
 ghost use Rattle.std.specs.Prelude.{◌≡◌, ◌≤◌, ℕ, ◌+◌, false, Some, None, length, IfOk, IfErr, IfSome, OnOk, IsSome};
 ghost use Rattle.xd_edge.specs.Limits.{most_piece_bytes};
-ghost use Rattle.xd_listen.specs.Halts.{CeasesBy, Goes, door_behind, over_by};
+ghost use Rattle.xd_listen.specs.Halts.{CeasesBy, Goes, door_after, over_by};
 ghost use Rattle.xd_listen.specs.Inputs.{is_terminate_kind};
 ghost use Rattle.xd_listen.specs.Seen.{seen};
 ghost use Rattle.xd_listen.specs.Serves.{Beside, RunsTest, ServesSoFar, Setting, beside, nothing, owed_of_link, of_program, to_start};
@@ -36,7 +36,7 @@ impl<N: Sink> Server<N> {
             IfErr result (λ fault. CeasesBy fault a now (seen N.sunk N.faults self.new)) }
         ensures stood { Stood self.old.speaker.core → OnOk result (Stood self.new.speaker.core) }
     {
-        let door = door_behind(&message, self.door);
+        let door = door_after(&message, self.door);
         match self.speaker.hear(WorkerInput::Message(message)) {
             Ok(acts) => {
                 self.door = door;
@@ -191,8 +191,8 @@ impl<N: Sink> Server<N> {
 }
 
 // After GATEWAY_TERMINATE no message is taken.
-fn door_behind(message: &Message, door: Door) -> Door
-    ensures { result ≡ door_behind (is_terminate_kind message.now.kind) door }
+fn door_after(message: &Message, door: Door) -> Door
+    ensures { result ≡ door_after (is_terminate_kind message.now.kind) door }
 {
     match message.kind {
         Kind::Terminate => Door::Terminated,

@@ -1,7 +1,7 @@
 // A worker whose messages are written to its link.
 ghost use Rattle.std.specs.Prelude.{◌≡◌, ◌≤◌, not, List, ℕ, IfOk, IfErr, OnOk, OnErr};
 ghost use Rattle.xd_frame.specs.Message.{frames};
-ghost use Rattle.xd_frame.specs.Writing.{Writes, WritesMore, CountAfter, CountBehind};
+ghost use Rattle.xd_frame.specs.Writing.{Writes, WritesMore, CountAfter, CountSince};
 ghost use Rattle.xd_listen.specs.Speaking.{greeting};
 
 use std::alloc::Global;
@@ -22,9 +22,8 @@ pub struct Speaker<N: Sink> {
 
 impl<N: Sink> Speaker<N> {
     ghost use Rattle.std.specs.Prelude.{[]};
-    ghost use Rattle.xd_factory.specs.declared.faults.SideFault.{SideFault};
-    ghost use Rattle.xd_worker.specs.History.{HeardInput, worker_after, IsToRefuse};
-    ghost use Rattle.xd_worker.specs.Stands.{StandsFor, Stood, Answers, FaultHasReason, IsThisFault};
+    ghost use Rattle.xd_worker.specs.History.{HeardInput, worker_after};
+    ghost use Rattle.xd_worker.specs.Stands.{StandsFor, Stood, Answers, FaultHasReason};
 
     /// A worker to which nothing has come yet, and which has written its greeting.
     pub fn begin(alloc: Global, sink: N) -> Speaker<N>
@@ -55,7 +54,7 @@ impl<N: Sink> Speaker<N> {
         ensures silent { OnErr result (N.sunk self.new.sink ≡ N.sunk self.old.sink) }
         ensures as_before { OnErr result (self.new.is_broken ≡ self.old.is_broken) }
         ensures count { IfOk result (λ acts.
-            CountBehind self.old.is_broken self.new.is_broken (N.faults self.old.sink)
+            CountSince self.old.is_broken self.new.is_broken (N.faults self.old.sink)
             (N.faults self.new.sink)) }
         ensures still { OnErr result (N.faults self.new.sink ≡ N.faults self.old.sink) }
         ensures later { N.faults self.old.sink ≤ N.faults self.new.sink }
@@ -78,7 +77,7 @@ impl<N: Sink> Speaker<N> {
             WritesMore self.old.is_broken self.new.is_broken (frames acts.say)
             (N.sunk self.old.sink) (N.sunk self.new.sink)) }
         ensures count { IfOk result (λ acts.
-            CountBehind self.old.is_broken self.new.is_broken (N.faults self.old.sink)
+            CountSince self.old.is_broken self.new.is_broken (N.faults self.old.sink)
             (N.faults self.new.sink)) }
         ensures later { N.faults self.old.sink ≤ N.faults self.new.sink }
     {
@@ -92,7 +91,7 @@ impl<N: Sink> Speaker<N> {
         ensures core { self.new.core ≡ self.old.core }
         ensures writes { WritesMore self.old.is_broken self.new.is_broken (frames messages.now)
             (N.sunk self.old.sink) (N.sunk self.new.sink) }
-        ensures count { CountBehind self.old.is_broken self.new.is_broken (N.faults self.old.sink)
+        ensures count { CountSince self.old.is_broken self.new.is_broken (N.faults self.old.sink)
             (N.faults self.new.sink) }
         ensures later { N.faults self.old.sink ≤ N.faults self.new.sink }
     {

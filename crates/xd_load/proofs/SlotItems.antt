@@ -1,6 +1,6 @@
 -- The items of slots stand apart, and in the pool at the share.
 use Rattle.std.proofs.Common.{◌≡◌, ℕ, zero, suc, ◌+◌, ◌≤◌, ◌<◌, List, [], ◌∷◌, ◌++◌, take, drop, length, get_or, Bool, true, false, not, ◌&&◌, refl, ap, sym, ◌∙◌, subst, arith, inl, inr}
-use Rattle.std.specs.Prelude.{fold, sum, slice_index, filter, None, Some, Option}
+use Rattle.std.specs.Prelude.{sum, slice_index, filter, None, Some, Option}
 use Rattle.std.specs.List.{range_with_len}
 use Rattle.std.proofs.lemmas.Bool.{cases_order}
 use Rattle.std.proofs.lemmas.Bool.Decides.{nat_tests}
@@ -18,7 +18,7 @@ use Rattle.xd_ledger.specs.Turn.{Turn, shut}
 use Rattle.xd_ledger.specs.Each.{give_all, give_of_slot, give_slots}
 use Rattle.xd_ledger.proofs.Parts.{parts-apart, parts-within}
 use Rattle.xd_ledger.proofs.Turns.{workers-at_seat, workers-shut_turn}
-use Rattle.xd_ledger.proofs.Lists.{among-append, among-at, among-filter, all_among-of, among-range, behind-at, distinct-drop, first-drop}
+use Rattle.xd_ledger.proofs.Lists.{among-append, among-at, among-filter, all_among-of, among-range, following-at, distinct-drop, first-drop}
 use Rattle.xd_load.specs.Slots.{AreWaiting, InSlots, first_in, items_in}
 
 pub sum-one_more : (xs : List ℕ) (i : ℕ) → i < length xs → sum (take (i + 1) xs) ≡ sum (take i xs) + get_or xs i 0
@@ -115,7 +115,7 @@ pub item-at : (xs : List ℕ) (k x : ℕ) → k < length xs → Some x ≡ first
 item-at xs k x h e = let f = first-drop xs k h in cc
 
 pub next-at : (xs : List ℕ) (k x : ℕ) (next : Option ℕ) → k < length xs → all_distinct xs ≡ true → x ≡ get_or xs k 0 → next ≡ first_of (part_after x xs) → next ≡ first_of (drop (k + 1) xs)
-next-at xs k x next h d at e = e ∙ ap (λ (z : ℕ). first_of (part_after z xs)) at ∙ ap first_of (behind-at xs k h d)
+next-at xs k x next h d at e = e ∙ ap (λ (z : ℕ). first_of (part_after z xs)) at ∙ ap first_of (following-at xs k h d)
 
 pub stands-in_pool : (xs ys : List ℕ) (k x : ℕ) → k < length xs → x ≡ get_or xs k 0 → among x (xs ++ ys) ≡ true
 stands-in_pool xs ys k x h at =

@@ -35,14 +35,14 @@ item-alone : (slot n : ℕ) (p : Plan) → p.mode ≡ Local → items_named slot
 item-alone slot n p e = ap (λ (m : ModeKind). if is_each m then map (λ i. base slot p + i) (n ∷ []) else n ∷ []) e
 
 -- the state after one test
-abbrev behind_one : ℕ → TestResult → State → State
-behind_one n r s = after_entries s (round n r)
+abbrev after_one : ℕ → TestResult → State → State
+after_one n r s = after_entries s (round n r)
 
 pub reports-rounds : (s : State) (n : ℕ) (rs : List TestResult) (how : RunStop) → s.plan.mode ≡ Local → reports_from s (rounds n rs ++ Over how ∷ []) ≡ reports_alone n rs
 reports-rounds s n [] how e = refl
 reports-rounds s n (r ∷ rs) how e =
-    ap (λ (items : List ℕ). map (λ item. Result 0 item r.outcome) items ++ reports_from (behind_one n r s) (rounds (n + 1) rs ++ Over how ∷ [])) (item-alone _ n s.plan e)
-    ∙ ap (λ (l : List Report). Result 0 n r.outcome ∷ l) (reports-rounds (behind_one n r s) (n + 1) rs how e)
+    ap (λ (items : List ℕ). map (λ item. Result 0 item r.outcome) items ++ reports_from (after_one n r s) (rounds (n + 1) rs ++ Over how ∷ [])) (item-alone _ n s.plan e)
+    ∙ ap (λ (l : List Report). Result 0 n r.outcome ∷ l) (reports-rounds (after_one n r s) (n + 1) rs how e)
 
 pub items-alone : (n : ℕ) (rs : List TestResult) → map item_of (reports_alone n rs) ≡ range_with_len n (length rs)
 items-alone n [] = refl
@@ -116,7 +116,7 @@ stop-rounds limit s n (r ∷ rs) same at below =
     let ran : State = settled (after_effect s (Run 0 (n ∷ []))) in
     let none : s.books.stop ≡ None = at ∙ low-none limit s.books.failures below.0 in
     let e : s.books.failures + failing r.outcome + failed_of rs ≡ s.books.failures + (failing r.outcome + failed_of rs) = omega arith in
-    stop-rounds limit (behind_one n r s) (n + 1) rs same (done-stop limit (items_named (slot_of 0 ran.books) (n ∷ []) ran.plan) r.outcome ran.books same none below.0) below.1
+    stop-rounds limit (after_one n r s) (n + 1) rs same (done-stop limit (items_named (slot_of 0 ran.books) (n ∷ []) ran.plan) r.outcome ran.books same none below.0) below.1
     ∙ ap (stop_by limit) e
 
 -- one result more, where the limit was not reached
@@ -132,12 +132,12 @@ below-first limit before zero rs below = tt
 below-first limit before (suc k) [] below = tt
 below-first limit before (suc k) (r ∷ rs) below = (below.0, below-first limit (before + failing r.outcome) k rs below.1)
 
-below-ahead : (limit before k : ℕ) (rs : List TestResult) → k < length rs → BelowLimit limit before rs → reaches limit (before + failed_of (take k rs)) ≡ false
-below-ahead limit before k [] h below = absurd (omega (arith, h))
-below-ahead limit before zero (r ∷ rs) h below = ap (reaches limit) (plus-none before) ∙ below.0
-below-ahead limit before (suc k) (r ∷ rs) h below =
+below-preceding : (limit before k : ℕ) (rs : List TestResult) → k < length rs → BelowLimit limit before rs → reaches limit (before + failed_of (take k rs)) ≡ false
+below-preceding limit before k [] h below = absurd (omega (arith, h))
+below-preceding limit before zero (r ∷ rs) h below = ap (reaches limit) (plus-none before) ∙ below.0
+below-preceding limit before (suc k) (r ∷ rs) h below =
     let e : before + (failing r.outcome + failed_of (take k rs)) ≡ before + failing r.outcome + failed_of (take k rs) = omega arith in
-    ap (reaches limit) e ∙ below-ahead limit (before + failing r.outcome) k rs (omega (arith, h)) below.1
+    ap (reaches limit) e ∙ below-preceding limit (before + failing r.outcome) k rs (omega (arith, h)) below.1
 
 -- the same from the start of a run on
 
@@ -153,17 +153,17 @@ pub below-next : (limit : ℕ) (rs : List TestResult) (r : TestResult) → Below
 below-next limit rs r below low = below-more limit 0 rs r below (ap (reaches limit) (zero-plus (failed_of rs)) ∙ low)
 
 pub below-at : (limit k : ℕ) (rs : List TestResult) → k < length rs → BelowLimit limit 0 rs → reaches limit (failed_of (take k rs)) ≡ false
-below-at limit k rs h below = ap (reaches limit) (sym (zero-plus (failed_of (take k rs)))) ∙ below-ahead limit 0 k rs h below
+below-at limit k rs h below = ap (reaches limit) (sym (zero-plus (failed_of (take k rs)))) ∙ below-preceding limit 0 k rs h below
 
 pub lists-rounds : (s : State) (n : ℕ) (rs : List TestResult) (how : RunStop) → (after_entries s (rounds n rs ++ Over how ∷ [])).books.lists ≡ s.books.lists
 lists-rounds s n [] how = refl
-lists-rounds s n (r ∷ rs) how = lists-rounds (behind_one n r s) (n + 1) rs how
+lists-rounds s n (r ∷ rs) how = lists-rounds (after_one n r s) (n + 1) rs how
 
 pub failures-rounds : (s : State) (n : ℕ) (rs : List TestResult) (how : RunStop) → (after_entries s (rounds n rs ++ Over how ∷ [])).books.failures ≡ s.books.failures + failed_of rs
 failures-rounds s n [] how = sym (plus-none s.books.failures)
 failures-rounds s n (r ∷ rs) how =
     let e : s.books.failures + failing r.outcome + failed_of rs ≡ s.books.failures + (failing r.outcome + failed_of rs) = omega arith in
-    failures-rounds (behind_one n r s) (n + 1) rs how ∙ e
+    failures-rounds (after_one n r s) (n + 1) rs how ∙ e
 
 pub eq_same : (n : ℕ) → (n == n) ≡ true
 eq_same n = grind (arith, nat_tests)

@@ -24,8 +24,8 @@ module _ (test : ℕ) (args : List (List ℕ)) (from : ℕ) (before now : Tickin
   added = new_ones old.journal.entries.items (round test n.result) mid.journal.entries.items from n.noted.entries from_is
 
   -- the reporter that has seen nothing of it
-  pub ahead : FollowsJournal old → Follows mid.reporter (after_journal old.journal)
-  ahead told = subst (λ (r : Reporter). Follows r (after_journal old.journal)) (sym n.unseen) told
+  pub preceding : FollowsJournal old → Follows mid.reporter (after_journal old.journal)
+  preceding told = subst (λ (r : Reporter). Follows r (after_journal old.journal)) (sym n.unseen) told
 
   noted : IsNoted test args n.result old new
   noted = subst (λ (r : Running). IsNoted test args n.result old r) (sym same) (record {

@@ -20,7 +20,7 @@ use Rattle.xd_journal.specs.declared.entry.Outcome.{Outcome}
 use Rattle.xd_journal.specs.declared.entry.Outcome.TheVariants.{Passed, Skipped, Failed}
 use Rattle.xd_journal.specs.declared.journal.Journal.{Journal}
 use Rattle.xd_journal.specs.declared.settings.Settings.{Settings}
-use Rattle.xd_journal.specs.Kept.{most_of_one, room_behind, kept_of}
+use Rattle.xd_journal.specs.Kept.{most_of_one, output_room, kept_of}
 use Rattle.xd_journal.specs.Local.{TestResult, round, rounds, local_entries}
 use Rattle.xd_journal.specs.Stop.{reaches}
 use Rattle.xd_ledger.specs.State.{after_entries, after_entry, no_one}
@@ -69,12 +69,12 @@ abbrev lengths : List (List ℕ) → ℕ
 lengths [] = 0
 lengths (l ∷ ls) = length l + lengths ls
 
-kept_outputs-last : (spent : ℕ) (runs : List ChildRun) (run : ChildRun) → kept_of_starts spent (runs ++ run ∷ []) ≡ kept_of_starts spent runs ++ kept_at (room_behind (spent + lengths (kept_of_starts spent runs))) run ∷ []
-kept_outputs-last spent [] run = let e : spent + 0 ≡ spent = omega arith in ap (λ (n : ℕ). kept_at (room_behind n) run ∷ []) (sym e)
+kept_outputs-last : (spent : ℕ) (runs : List ChildRun) (run : ChildRun) → kept_of_starts spent (runs ++ run ∷ []) ≡ kept_of_starts spent runs ++ kept_at (output_room (spent + lengths (kept_of_starts spent runs))) run ∷ []
+kept_outputs-last spent [] run = let e : spent + 0 ≡ spent = omega arith in ap (λ (n : ℕ). kept_at (output_room n) run ∷ []) (sym e)
 kept_outputs-last spent (r ∷ rs) run =
-    let k = kept_at (room_behind spent) r in
+    let k = kept_at (output_room spent) r in
     let e : spent + length k + lengths (kept_of_starts (spent + length k) rs) ≡ spent + (length k + lengths (kept_of_starts (spent + length k) rs)) = omega arith in
-    ap (λ (l : List (List ℕ)). k ∷ l) (kept_outputs-last (spent + length k) rs run ∙ ap (λ (n : ℕ). kept_of_starts (spent + length k) rs ++ kept_at (room_behind n) run ∷ []) e)
+    ap (λ (l : List (List ℕ)). k ∷ l) (kept_outputs-last (spent + length k) rs run ∙ ap (λ (n : ℕ). kept_of_starts (spent + length k) rs ++ kept_at (output_room n) run ∷ []) e)
 
 kept_by-more : (results : List TestResult) (r : TestResult) → kept_by (results ++ r ∷ []) ≡ kept_by results + length r.output
 kept_by-more [] r = omega arith
@@ -95,12 +95,12 @@ low_of args room Passed kept old new r = let l = ap length r.kept_is in grind (a
 low_of args room Skipped kept old new r = let l = ap length r.kept_is in grind (arith, common_steps)
 low_of args room (Failed c) kept old new r = let l = ap length r.kept_is in grind (arith, common_steps)
 
-few_more : (results : List TestResult) (r : TestResult) (spent : ℕ) → list_all (λ r. nat_le (length r.output) most_of_one) results ≡ true → length r.output ≤ room_behind spent → list_all (λ r. nat_le (length r.output) most_of_one) (results ++ r ∷ []) ≡ true
+few_more : (results : List TestResult) (r : TestResult) (spent : ℕ) → list_all (λ r. nat_le (length r.output) most_of_one) results ≡ true → length r.output ≤ output_room spent → list_all (λ r. nat_le (length r.output) most_of_one) (results ++ r ∷ []) ≡ true
 few_more [] r spent h l = grind (arith, nat_tests)
 few_more (x ∷ xs) r spent h l = let ih = few_more xs r spent in grind (arith, nat_tests, ih)
 
 module _ (tests : List Test) where
-  one_more : (results : List TestResult) (r : TestResult) (old mid new : Option (List ChildRun)) → length results < length tests → RanTests tests results old mid → RanChild (run_at tests (length results)) (room_behind (kept_by results)) (child_of r) mid new → RanTests tests (results ++ r ∷ []) old new
+  one_more : (results : List TestResult) (r : TestResult) (old mid new : Option (List ChildRun)) → length results < length tests → RanTests tests results old mid → RanChild (run_at tests (length results)) (output_room (kept_by results)) (child_of r) mid new → RanTests tests (results ++ r ∷ []) old new
   one_more results r old mid new within ran more =
       let run : ChildRun = more.run in
       let long : length (results ++ r ∷ []) ≡ length results + 1 = omega (arith, length-append results (r ∷ [])) in
@@ -114,8 +114,8 @@ module _ (tests : List Test) where
             ∙ ap (λ (x : Option Outcome). map (λ (r : TestResult). Some r.outcome) results ++ x ∷ []) more.came_to ∙ sym (map-append (λ (r : TestResult). Some r.outcome) results (r ∷ []));
         outputs = map-append (λ r. r.output) results (r ∷ [])
             ∙ ap (λ (l : List (List ℕ)). l ++ r.output ∷ []) ran.outputs
-            ∙ ap (λ (k : List ℕ). kept_of_starts 0 ran.runs ++ k ∷ []) (more.kept_is ∙ kept_run run r.outcome (room_behind (kept_by results)) more.came_to)
-            ∙ ap (λ (n : ℕ). kept_of_starts 0 ran.runs ++ kept_at (room_behind n) run ∷ []) (kept_total results ran.runs 0 ran.outputs ∙ zero_more (lengths (kept_of_starts 0 ran.runs)))
+            ∙ ap (λ (k : List ℕ). kept_of_starts 0 ran.runs ++ k ∷ []) (more.kept_is ∙ kept_run run r.outcome (output_room (kept_by results)) more.came_to)
+            ∙ ap (λ (n : ℕ). kept_of_starts 0 ran.runs ++ kept_at (output_room n) run ∷ []) (kept_total results ran.runs 0 ran.outputs ∙ zero_more (lengths (kept_of_starts 0 ran.runs)))
             ∙ sym (kept_outputs-last 0 ran.runs run);
         added = added_more ran.runs run old mid new ran.added more.added;
       }
@@ -179,14 +179,14 @@ module _ (tests : List Test) where
       }
 
     -- the state after the first tests has the stop that their failures make
-    stop_behind : (r : Running) (results : List TestResult) → SoFar results tests old.run r → (after_journal r.journal).books.stop ≡ stop_by limit (failed_of results)
-    stop_behind r results so_far =
+    stop_so_far : (r : Running) (results : List TestResult) → SoFar results tests old.run r → (after_journal r.journal).books.stop ≡ stop_by limit (failed_of results)
+    stop_so_far r results so_far =
         ap (λ (st : Settings). (after_entries (no_one st) r.journal.entries.items).books.stop) (so_far.settings ∙ is_local)
         ∙ ap (λ (es : List Entry). (after_entries (no_one (local_settings limit)) es).books.stop) so_far.entries
         ∙ stop-begun limit (after_entry (no_one (local_settings limit)) (Collected 0 (Listed (ids_of_tests tests)))) results refl refl refl so_far.below
 
     reached_is : (r : Running) (results : List TestResult) (b : Bool) → SoFar results tests old.run r → b ≡ is_stopped (after_journal r.journal).books → b ≡ reaches limit (failed_of results)
-    reached_is r results b so_far is = is ∙ ap is_some (stop_behind r results so_far) ∙ is_some-stop limit (failed_of results)
+    reached_is r results b so_far is = is ∙ ap is_some (stop_so_far r results so_far) ∙ is_some-stop limit (failed_of results)
 
     -- after the test that reached the limit
     pub limited : (count : ℕ) (new : LocalScene) (b : Bool) → Progress count tests old new → b ≡ is_stopped (after_journal new.run.journal).books → b ≡ true → RanAll true tests old new
@@ -221,7 +221,7 @@ module _ (tests : List Test) where
       grown : es2 ≡ local_entries (ids_of_tests tests) results
       grown = more.noted.entries ∙ ap (λ (l : List Entry). l ++ round k more.result) p.so_far.entries ∙ sym entries_are
 
-      low : length more.result.output ≤ room_behind mid.run.spent
+      low : length more.result.output ≤ output_room mid.run.spent
       low = low_of _ _ more.result.outcome more.result.output mid.run.programs.runs new.run.programs.runs more.noted.ran
 
       total_kept : kept_by results ≡ kept_by p.results + length more.result.output
@@ -235,8 +235,8 @@ module _ (tests : List Test) where
         entries = grown;
         settings = more.noted.settings ∙ p.so_far.settings;
         ran = one_more p.results more.result old.run.programs.runs mid.run.programs.runs new.run.programs.runs (omega (arith, p.counted, within)) p.so_far.ran
-            (subst (λ n. RanChild (run_at tests (length p.results)) (room_behind n) (child_of more.result) mid.run.programs.runs new.run.programs.runs) p.spent_is
-            (subst (λ n. RanChild (run_at tests n) (room_behind mid.run.spent) (child_of more.result) mid.run.programs.runs new.run.programs.runs) (sym p.counted) more.noted.ran));
+            (subst (λ n. RanChild (run_at tests (length p.results)) (output_room n) (child_of more.result) mid.run.programs.runs new.run.programs.runs) p.spent_is
+            (subst (λ n. RanChild (run_at tests n) (output_room mid.run.spent) (child_of more.result) mid.run.programs.runs new.run.programs.runs) (sym p.counted) more.noted.ran));
         faults =
             subst (λ n. RoseBy n old.run.programs.faults new.run.programs.faults) (sym faults_total)
             (rose_more (result_faults p.results) (fault_count more.result.outcome) old.run.programs.faults mid.run.programs.faults new.run.programs.faults p.so_far.faults more.noted.faults more.noted.later);

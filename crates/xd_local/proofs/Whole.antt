@@ -15,7 +15,7 @@ use Rattle.xd_journal.specs.declared.entry.RunStop.TheVariants.{Completed, MaxFa
 use Rattle.xd_journal.specs.declared.journal.Journal.{Journal}
 use Rattle.xd_journal.specs.Local.{TestResult, local_entries, rounds}
 use Rattle.xd_journal.specs.Stop.{reaches}
-use Rattle.xd_ledger.specs.Legal.{IsLegal, books_behind}
+use Rattle.xd_ledger.specs.Legal.{IsLegal, books_after}
 use Rattle.xd_ledger.specs.Reports.{NamesInOrder, Report, collected_ids, item_of, reports, reports_in}
 use Rattle.xd_ledger.specs.Sharing.{State, ids_at}
 use Rattle.xd_ledger.specs.Stops.{is_stopped}
@@ -94,8 +94,8 @@ module _ (tests : List Test) (maxfail : ℕ) (j1 : Journal) (shown : Bool) (old 
   abbrev failures : ℕ
   failures = failed_of results
 
-  books_stop : (rs : List TestResult) → BelowLimit maxfail 0 rs → (books_behind j1.settings ids rs).stop ≡ stop_by maxfail (failed_of rs)
-  books_stop rs low = ap (λ (st : Settings). (books_behind st ids rs).stop) settings_are ∙ stop-begun maxfail start rs refl refl refl low
+  books_stop : (rs : List TestResult) → BelowLimit maxfail 0 rs → (books_after j1.settings ids rs).stop ≡ stop_by maxfail (failed_of rs)
+  books_stop rs low = ap (λ (st : Settings). (books_after st ids rs).stop) settings_are ∙ stop-begun maxfail start rs refl refl refl low
 
   first_stop : (after_journal j0).books.stop ≡ stop_by maxfail failures
   first_stop =
@@ -134,23 +134,23 @@ module _ (tests : List Test) (maxfail : ℕ) (j1 : Journal) (shown : Bool) (old 
       ∙ ap (ids_at 0) (lists-rounds start 0 results how)
 
   -- the run stopped by its limit, or ran all tests
-  has_ended : HasEnded old.run.journal.settings.maxfail tests results → (is_stopped (books_behind j1.settings ids results) || (length results == length ids)) ≡ true
+  has_ended : HasEnded old.run.journal.settings.maxfail tests results → (is_stopped (books_after j1.settings ids results) || (length results == length ids)) ≡ true
   has_ended (inl reached) =
-      let stopped : is_stopped (books_behind j1.settings ids results) ≡ true =
+      let stopped : is_stopped (books_after j1.settings ids results) ≡ true =
       ap is_some (books_stop results below) ∙ is_some-stop maxfail failures ∙ sym (ap (λ (s : Settings). reaches s.maxfail failures) e.settings) ∙ reached in
       ap (λ b. b || (length results == length ids)) stopped
   has_ended (inr all) =
       let ran_all : (length results == length ids) ≡ true = ap (λ n. n == length ids) (all ∙ sym (length-map tests (λ (t : Test). t.id))) ∙ eq_same (length ids) in
-      ap (λ b. is_stopped (books_behind j1.settings ids results) || b) ran_all ∙ or-true (is_stopped (books_behind j1.settings ids results))
+      ap (λ b. is_stopped (books_after j1.settings ids results) || b) ran_all ∙ or-true (is_stopped (books_after j1.settings ids results))
 
   ends : (stop_of j1 ≡ OutFault)
-      ⊎ ((stop_of j1 ≡ run_end_of (books_behind j1.settings ids results))
-      × ((is_stopped (books_behind j1.settings ids results) || (length results == length ids)) ≡ true))
+      ⊎ ((stop_of j1 ≡ run_end_of (books_after j1.settings ids results))
+      × ((is_stopped (books_after j1.settings ids results) || (length results == length ids)) ≡ true))
   ends = by_end shown refl
     where
       by_end : (b : Bool) → shown ≡ b → (stop_of j1 ≡ OutFault)
-          ⊎ ((stop_of j1 ≡ run_end_of (books_behind j1.settings ids results))
-          × ((is_stopped (books_behind j1.settings ids results) || (length results == length ids)) ≡ true))
+          ⊎ ((stop_of j1 ≡ run_end_of (books_after j1.settings ids results))
+          × ((is_stopped (books_after j1.settings ids results) || (length results == length ids)) ≡ true))
       by_end false is_shown = inl (how_broken is_shown)
       by_end true is_shown = inr (
         how_printed is_shown ∙ sym (unwrap-stop maxfail failures) ∙ sym (ap (λ (s : Option RunStop). unwrap_or s Completed) (books_stop results below)),
@@ -171,7 +171,7 @@ module _ (tests : List Test) (maxfail : ℕ) (j1 : Journal) (shown : Bool) (old 
   -- no test was run after the one that reached the limit
   limit : KeepsLimit maxfail j1
   limit = record {
-    none_behind = λ k h.
+    none_later = λ k h.
         ap (λ (rs : List Report). reaches maxfail (failures_in (take k rs))) reports_are
         ∙ ap (λ (rs : List Report). reaches maxfail (failures_in rs)) (take-alone k 0 results)
         ∙ ap (reaches maxfail) (failures-alone 0 (take k results))

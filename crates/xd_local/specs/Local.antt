@@ -10,7 +10,7 @@ use Rattle.xd_journal.specs.declared.entry.Entry.TheVariants.{Over}
 use Rattle.xd_journal.specs.declared.entry.RunStop.{RunStop}
 use Rattle.xd_journal.specs.declared.entry.RunStop.TheVariants.{Completed, MaxFail, OutFault}
 use Rattle.xd_journal.specs.declared.journal.Journal.{Journal}
-use Rattle.xd_journal.specs.Kept.{most_of_one, most_of_all, room_behind, kept_of}
+use Rattle.xd_journal.specs.Kept.{most_of_one, most_of_all, output_room, kept_of}
 use Rattle.xd_journal.specs.Local.{TestResult, local_entries}
 use Rattle.xd_journal.specs.Stop.{reaches}
 use Rattle.xd_ledger.specs.Ending.{stop_of}
@@ -31,7 +31,7 @@ local_settings maxfail = record { mode = Local; workers = 0; maxfail = maxfail; 
 abbrev pub kept_of_starts : ℕ → List ChildRun → List (List ℕ)
 kept_of_starts spent [] = []
 kept_of_starts spent (r ∷ rs) =
-    let kept = unwrap_or (option_map (λ o. kept_of o (room_behind spent) r.output) (outcome_of r.fate)) [] in
+    let kept = unwrap_or (option_map (λ o. kept_of o (output_room spent) r.output) (outcome_of r.fate)) [] in
     kept ∷ kept_of_starts (spent + length kept) rs
 
 -- how many bytes these results keep
@@ -71,7 +71,7 @@ stop_at limit failures = if reaches limit failures then MaxFail failures else Co
 -- limit exactly where its failures reached it, with their number.
 -- Example: three tests pass, fail and are skipped, and the limit is 1: the third is not run.
 pub record KeepsLimit (limit : ℕ) (j : Journal) : Type 0 where
-  pub none_behind : (k : ℕ) → k < length (reports_in j) → reaches limit (failures_in (take k (reports_in j))) ≡ false
+  pub none_later : (k : ℕ) → k < length (reports_in j) → reaches limit (failures_in (take k (reports_in j))) ≡ false
   pub how : stop_of j ≢ OutFault → stop_of j ≡ stop_at limit (failures_in (reports_in j))
 
 -- how many faults of the outside a report stands for

@@ -9,7 +9,7 @@ use Rattle.xd_journal.specs.declared.entry.Entry.{Entry}
 use Rattle.xd_journal.specs.declared.entry.Entry.TheVariants.{Over}
 use Rattle.xd_journal.specs.declared.entry.RunStop.TheVariants.{OutFault}
 use Rattle.xd_journal.specs.declared.journal.Journal.{Journal}
-use Rattle.xd_journal.specs.Kept.{most_of_one, most_of_all, room_behind}
+use Rattle.xd_journal.specs.Kept.{most_of_one, most_of_all, output_room}
 use Rattle.xd_journal.specs.Local.{TestResult, round, local_entries}
 use Rattle.xd_journal.specs.Stop.{reaches}
 use Rattle.xd_ledger.specs.Sharing.{State}
@@ -93,7 +93,7 @@ child_of r = record { outcome = r.outcome; output = r.output }
 pub record IsNoted (test : ℕ) (args : List (List ℕ)) (result : TestResult) (old new : Running) : Type 0 where
   pub entries : AddsRound test result old.journal.entries.items new.journal.entries.items
   pub settings : new.journal.settings ≡ old.journal.settings
-  pub ran : RanChild args (room_behind old.spent) (child_of result) old.programs.runs new.programs.runs
+  pub ran : RanChild args (output_room old.spent) (child_of result) old.programs.runs new.programs.runs
   pub spent : new.spent ≡ old.spent + length result.output
   pub faults : RoseBy (fault_count result.outcome) old.programs.faults new.programs.faults
   pub still : fault_count result.outcome ≡ 0 → new.programs.faults ≡ old.programs.faults

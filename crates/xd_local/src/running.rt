@@ -2,7 +2,7 @@
 ghost use Rattle.std.specs.Prelude.{◌≡◌, ◌<◌, ◌≤◌, drop, length, IfOk, OnOk};
 ghost use Rattle.xd_edge.specs.Faults.{Counted};
 ghost use Rattle.xd_suite.specs.Tests.{run_at};
-ghost use Rattle.xd_journal.specs.Kept.{most_of_all, room_behind};
+ghost use Rattle.xd_journal.specs.Kept.{most_of_all, output_room};
 ghost use Rattle.xd_ledger.specs.Sharing.{State};
 ghost use Rattle.xd_ledger.specs.State.{after_entries};
 ghost use Rattle.xd_ledger.specs.Stops.{is_stopped};
@@ -172,7 +172,7 @@ impl<K: Children> Run<K> {
             self.old self.new) }
     {
         let start = clock.now();
-        let room = room_behind(self.spent);
+        let room = output_room(self.spent);
         let came = run_child(
             rt,
             self.alloc,
@@ -265,9 +265,9 @@ fn stop_after(shown: bool, first: Option<RunStop>) -> RunStop
 }
 
 // How many bytes may be kept of the next test's output, where `spent` are kept.
-fn room_behind(spent: usize) -> usize
+fn output_room(spent: usize) -> usize
     requires { spent ≤ most_of_all }
-    ensures { result ≡ room_behind spent }
+    ensures { result ≡ output_room spent }
 {
     (MOST_OF_ONE as usize).min(MOST_OF_ALL as usize - spent)
 }

@@ -49,7 +49,7 @@ was_open odd a wire Finish_receiving = λ h. absurd (never a.failed h)
 
 -- what is on the way to the peer
 more_carried : (a : Actor) (old new : LinkedSide) (wire words : List Said) → AddsMessages old.said.items new.said.items words → Carries a old wire → Carries a new (wire ++ words)
-more_carried a old new wire words k h o = subst (λ (ms : List MessageView). AllMean ms (wire ++ words)) (sym k.behind) (all_mean-append old.said.items k.more wire words (h o) k.mean)
+more_carried a old new wire words k h o = subst (λ (ms : List MessageView). AllMean ms (wire ++ words)) (sym k.following) (all_mean-append old.said.items k.more wire words (h o) k.mean)
 
 still_carried : (odd : Bool) (a : Actor) (peer : LinkedSide) (wire : List Said) (m : Move) → wire_after a wire m ≡ wire → Carries a peer wire → Carries (after odd a wire m) peer (wire_after a wire m)
 still_carried odd a peer wire m way h o = subst (λ (ws : List Said). AllMean peer.said.items ws) (sym way) (h (was_open odd a wire m o))

@@ -54,7 +54,7 @@ end_moves old new n e m p says accepted change more odd a wire num u k = record 
   says = subst (λ (s : Slot Tree). AddsMessages old.said.items new.said.items (part.function_end_words n e s)) (k.slots n)
       (record {
         more = m ∷ [];
-        behind = more;
+        following = more;
         mean = subst (λ (x : MessageView). AllMean (x ∷ []) (part.function_end_words n e (slot_of_number old.side n))) (sym says)
             (end_said n e (slot_of_number old.side n) (numbered a old.side n k.slots num.unseen) accepted p);
       });
@@ -91,7 +91,7 @@ send_moves old new n v b m p sent is side more odd a wire num known k =
     record {
       stands = adds_stands odd new.side a (can_send a n v) n v (same_stands odd old.side new.side a side k);
       says = if_adds old.said.items new.said.items (can_send a n v) (Data n v ∷ []) (both (part.may_send (a.part n).slot) (knows a.part (channels v)) may known)
-          (record { more = m ∷ []; behind = more; mean = (subst (λ (x : MessageView). Means x (Data n v)) (sym is) (item_said n v b n_is p parts.1), tt) });
+          (record { more = m ∷ []; following = more; mean = (subst (λ (x : MessageView). Means x (Data n v)) (sym is) (item_said n v b n_is p parts.1), tt) });
       way = refl;
     }
 
@@ -103,7 +103,7 @@ call_moves old new n v b m p d is side more odd a wire num can k =
     record {
       stands = same_stands odd old.side new.side a side k;
       says = if_adds old.said.items new.said.items (can_call a n v) (Exec n v ∷ []) can
-          (record { more = m ∷ []; behind = more; mean = (subst (λ (x : MessageView). Means x (Exec n v)) (sym is) (call_said n v b n_is p d), tt) });
+          (record { more = m ∷ []; following = more; mean = (subst (λ (x : MessageView). Means x (Exec n v)) (sym is) (call_said n v b n_is p d), tt) });
       way = refl;
     }
 
@@ -122,15 +122,15 @@ answer_moves old new n v b none m end p d empty is end_is side more odd a wire n
       says = if_adds old.said.items new.said.items (can_answer a n v) (Data n v ∷ message.Close n None ∷ []) can
           (record {
             more = m ∷ end ∷ [];
-            behind = more ∙ append_assoc old.said.items (m ∷ []) (end ∷ []);
+            following = more ∙ append_assoc old.said.items (m ∷ []) (end ∷ []);
             mean = (subst (λ (x : MessageView). Means x (Data n v)) (sym is) (item_said n v b n_is p d), (subst (λ (x : MessageView). Means x (message.Close n None)) (sym closes) (close_means n n_is), tt));
           });
       way = refl;
     }
 
 -- the room for a message changes nothing that is on the way
-pub behind : (old room new more : List MessageView) → room ≡ old → new ≡ room ++ more → new ≡ old ++ more
-behind old room new more e h = h ∙ ap (λ (ms : List MessageView). ms ++ more) e
+pub following : (old room new more : List MessageView) → room ≡ old → new ≡ room ++ more → new ≡ old ++ more
+following old room new more e h = h ∙ ap (λ (ms : List MessageView). ms ++ more) e
 
 -- a number that was never opened is let go, and nothing changes
 given_up_unseen : (s : Slot Tree) → is_seen s ≡ false → given_up_slot s ≡ s

@@ -25,7 +25,7 @@ use Rattle.xd_pair.specs.Messages.{AllMean, AddsMessages}
 use Rattle.xd_pair.proofs.Payloads.{item_means, call_means, close_means, error_means, last_means}
 
 pub adds_option : (old new : List MessageView) (m : Option MessageView) (words : List Said) → new ≡ old ++ option_to_list m → AllMean (option_to_list m) words → AddsMessages old new words
-adds_option old new m words e k = record { more = option_to_list m; behind = e; mean = k }
+adds_option old new m words e k = record { more = option_to_list m; following = e; mean = k }
 
 pub all_mean-append : (ms ns : List MessageView) (ws vs : List Said) → AllMean ms ws → AllMean ns vs → AllMean (ms ++ ns) (ws ++ vs)
 all_mean-append [] ns [] vs h k = k

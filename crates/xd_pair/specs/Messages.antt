@@ -13,5 +13,5 @@ AllMean (m ∷ ms) (w ∷ ws) = Means m w × AllMean ms ws
 -- after the old messages come some that mean these words
 pub record AddsMessages (old new : List MessageView) (words : List Said) : Type 0 where
   pub more : List MessageView
-  pub behind : new ≡ old ++ more
+  pub following : new ≡ old ++ more
   pub mean : AllMean more words

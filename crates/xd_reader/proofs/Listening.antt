@@ -58,7 +58,7 @@ all_of : (s : FramerView) (bytes : List ℕ) (put : List MessageView) → s.fail
 all_of s bytes put ok waits k = sym (append-nil put) ∙ (ap (λ (ms : List MessageView). put ++ ms) (sym waits) ∙ (k.whole ok).all)
 
 go_less : (s : FramerView) (bytes : List ℕ) (put : List MessageView) → HoldsLess s bytes put → GoLess bytes put
-go_less s bytes put k = record { behind = s.held; bytes_are = k.bytes; less = k.less }
+go_less s bytes put k = record { following = s.held; bytes_are = k.bytes; less = k.less }
 
 rest_none : rest_of [] ≡ Clean
 rest_none = refl
@@ -267,6 +267,6 @@ greets_bad s0 s1 b other gave still = record {
   bytes = b ∷ [];
   gave = gave;
   all = sym (ap (λ (x : Bool). if x then messages [] else []) other);
-  less = record { behind = []; bytes_are = refl; less = few (omega arith) };
+  less = record { following = []; bytes_are = refl; less = few (omega arith) };
   cause = (ap (λ (x : Bool). if x then link_stop_of (rest []) else stop.BadGreeting b) other, still);
 }

@@ -22,9 +22,9 @@ StopsAt stop.OutOfMemory greeted bytes s0 s1 = s1.faults ≡ s0.faults
 
 -- After the frames of these messages the bytes go less than a message further.
 pub record GoLess (bytes : List ℕ) (put : List MessageView) : Type 0 where
-  pub behind : List ℕ
-  pub bytes_are : bytes ≡ frames put ++ behind
-  pub less : IsLess behind
+  pub following : List ℕ
+  pub bytes_are : bytes ≡ frames put ++ following
+  pub less : IsLess following
 
 -- And so they do after their first byte, where a greeting is wanted.
 abbrev pub GoLessSo : Bool → List ℕ → List MessageView → Type 0

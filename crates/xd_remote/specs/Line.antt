@@ -2,7 +2,7 @@
 use Rattle.std.specs.Prelude.{◌≡◌, ◌≤◌, ℕ, Bool, true, false, List, Option, option_map, Result, Ok, Err}
 use Rattle.xd_edge.specs.Sink.{Sunk, PrintedPart, with_bytes, with_close, with_flush}
 use Rattle.xd_frame.specs.Message.{MessageView, frame}
-use Rattle.xd_frame.specs.Writing.{CountBehind, WritesMore}
+use Rattle.xd_frame.specs.Writing.{CountSince, WritesMore}
 use Rattle.xd_remote.specs.declared.fault.GatewayFault.{GatewayFault}
 use Rattle.xd_remote.specs.declared.fault.GatewayFault.TheVariants.{SendFault, Channel, Opening, OutOfMemory}
 
@@ -16,7 +16,7 @@ pub record GatewaySink : Type 0 where
 -- Example: the sink fails at the second byte of a header: one byte was taken, nothing was handed on, and the count rose.
 pub record PrintsBytes (bytes : List ℕ) (old new : GatewaySink) : Type 0 where
   pub writes : WritesMore old.broken new.broken bytes old.sunk new.sunk
-  pub count : CountBehind old.broken new.broken old.faults new.faults
+  pub count : CountSince old.broken new.broken old.faults new.faults
   pub later : old.faults ≤ new.faults
 
 -- The sink took these last bytes, handed them on and was closed; or not all of it, where it failed.
@@ -28,7 +28,7 @@ ClosesMore false false bytes old new = new ≡ option_map (λ s. with_close (wit
 -- A close with these last bytes: what the sink took of them, and its count of faults, which rose where it failed now.
 pub record ClosesSink (bytes : List ℕ) (old new : GatewaySink) : Type 0 where
   pub closes : ClosesMore old.broken new.broken bytes old.sunk new.sunk
-  pub count : CountBehind old.broken new.broken old.faults new.faults
+  pub count : CountSince old.broken new.broken old.faults new.faults
   pub later : old.faults ≤ new.faults
 
 -- Nothing more than the close: it is done, or it failed now, or a write failed before.
@@ -40,7 +40,7 @@ ClosedBy false false old new = new ≡ option_map with_close old
 -- A close without last bytes: whether the sink is closed, and its count of faults, which rose where it failed now.
 pub record ClosesNow (old new : GatewaySink) : Type 0 where
   pub closed : ClosedBy old.broken new.broken old.sunk new.sunk
-  pub count : CountBehind old.broken new.broken old.faults new.faults
+  pub count : CountSince old.broken new.broken old.faults new.faults
   pub later : old.faults ≤ new.faults
 
 -- what a call that only writes answers, by whether a write failed, now or before

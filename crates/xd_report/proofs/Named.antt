@@ -393,8 +393,8 @@ plan-kept s (e ∷ es) =
     plan-kept (after_entry s e) es ∙ after_effect-plan (reached s e) e ∙ plan-either (is_input e) (settled s) s s.plan.mode refl refl
 
 -- the state after the first collection
-behind : (settings : Settings) (before : List Entry) (first : Listed) → listed_in 0 (after_entries (no_one settings) before).books.lists ≡ Some first → Listing settings first (after_entries (no_one settings) before)
-behind settings before first first_is = record {
+following : (settings : Settings) (before : List Entry) (first : Listed) → listed_in 0 (after_entries (no_one settings) before).books.lists ≡ Some first → Listing settings first (after_entries (no_one settings) before)
+following settings before first first_is = record {
   set = settings-kept (no_one settings) before;
   planned = plan-kept (no_one settings) before;
   first_is = first_is;
@@ -405,7 +405,7 @@ pub lines-named : (settings : Settings) (before more : List Entry) (first : List
     → HasNamedLineEach (id_in first.ids) settings.mode (run_lines settings (before ++ more)) (reports settings (before ++ more))
 lines-named settings before more first one_list no_report no_retry first_is =
     let s = after_entries (no_one settings) before in
-    let l = behind settings before first first_is in
+    let l = following settings before first first_is in
     let x = lines-by (id_in first.ids) settings (no_one settings) before refl (quiet-all (id_in first.ids) (no_one settings) before no_report no_retry) in
     let y = lines-by (id_in first.ids) settings s more l.set (all-right settings first one_list s more l) in
     let joined_up = both (id_in first.ids) settings.mode (run_lines settings before) (lines_from s more) (reports settings before) (reports_from s more) x y in
@@ -417,10 +417,10 @@ pub blocks-named : (settings : Settings) (before more : List Entry) (first : Lis
     → HasNamedBlockEach (id_in first.ids) settings.mode (blocks_from (no_one settings) (before ++ more)) (reports settings (before ++ more)) (kept_outputs settings (before ++ more))
 blocks-named settings before more first one_list no_report first_is =
     let s = after_entries (no_one settings) before in
-    let l = behind settings before first first_is in
-    let ahead = all_blocks (no_one settings) before in
+    let l = following settings before first first_is in
+    let preceding = all_blocks (no_one settings) before in
     let x : HasNamedBlockEach (id_in first.ids) settings.mode (blocks_from (no_one settings) before) (reports settings before) (kept_outputs settings before) =
-    record { each = ahead; names = no-names (id_in first.ids) ahead.blocks (ahead.each_once ∙ ap (filter is_failure) no_report) } in
+    record { each = preceding; names = no-names (id_in first.ids) preceding.blocks (preceding.each_once ∙ ap (filter is_failure) no_report) } in
     let y = blocks-by (id_in first.ids) settings s more l.set (all-right settings first one_list s more l) in
     let joined_up = both_blocks (id_in first.ids) settings.mode (blocks_from (no_one settings) before) (blocks_from s more) (reports settings before) (reports_from s more) (kept_outputs settings before) (outputs_from s more) x y in
     subst (λ (text : List ℕ). HasNamedBlockEach (id_in first.ids) settings.mode text (reports settings (before ++ more)) (kept_outputs settings (before ++ more))) (sym (blocks-more (no_one settings) before more))

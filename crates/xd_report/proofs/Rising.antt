@@ -26,9 +26,9 @@ without-first (t ∷ []) (x ∷ xs) rises one same =
     rw (eq-eqb x t (sym is)) (without-lower t xs below)
 without-first (t ∷ u ∷ those) xs rises one same = absurd (omega (arith, one))
 
-pub rises-behind : (xs : List ℕ) → IsStrictlyIncreasing xs → IsStrictlyIncreasing (drop 1 xs)
-rises-behind [] rises = rises
-rises-behind (x ∷ xs) rises = λ k within.
+pub rises-following : (xs : List ℕ) → IsStrictlyIncreasing xs → IsStrictlyIncreasing (drop 1 xs)
+rises-following [] rises = rises
+rises-following (x ∷ xs) rises = λ k within.
     let at : suc k + 1 ≡ suc (k + 1) = omega arith in
     subst (λ n. slice_index xs k < slice_index (x ∷ xs) n) at (rises (suc k) (omega arith))
 
@@ -50,7 +50,7 @@ without-end zero xs rises = without-all xs xs (λ i d within. list_any_at (λ y.
 without-end (suc k) [] rises = refl
 without-end (suc k) (x ∷ xs) rises =
     let above : All (λ y. x < y) xs = λ i d within. AllPairs-from_increasing (x ∷ xs) rises zero (suc i) d (omega arith) (omega arith) in
-    rw (among-lower x (drop k xs) (All-drop (λ y. x < y) k xs above), without-end k xs (rises-behind (x ∷ xs) rises)) refl
+    rw (among-lower x (drop k xs) (All-drop (λ y. x < y) k xs above), without-end k xs (rises-following (x ∷ xs) rises)) refl
 
 -- those that are the end of a list that rises
 pub without-those : (those xs : List ℕ) (n : ℕ) → n ≡ length xs → IsStrictlyIncreasing xs → drop (length xs - length those) xs ≡ those → take (n - length those) xs ≡ without those xs

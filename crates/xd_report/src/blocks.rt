@@ -5,7 +5,6 @@ ghost use Rattle.std.specs.List.{HoldsAt};
 ghost use Rattle.std.specs.Str.{chars};
 ghost use Rattle.xd_report.specs.Blocks.{block, block_of, count_line, crash_block, crash_reason, heading_line, state_before, is_failed_report, line_end, output_text, reason_of, IsBlockAt, IsFailedAt};
 ghost use Rattle.xd_report.specs.Follows.{Follows};
-ghost use Rattle.xd_report.specs.Tests.{mode_of};
 
 use crate::names::{add_name, add_plain, add_tag};
 use crate::reporter::Reporter;

@@ -6,7 +6,6 @@ ghost use Rattle.xd_ledger.specs.Sharing.{State};
 ghost use Rattle.xd_ledger.specs.Handing.{after_back, after_run, after_run_all};
 ghost use Rattle.xd_ledger.specs.State.{after_effect};
 ghost use Rattle.xd_report.specs.Follows.{Follows};
-ghost use Rattle.xd_report.specs.Tests.{tests};
 
 use crate::holder;
 use crate::numbers::numbers_from;

@@ -1,5 +1,5 @@
 // What the workers of the rota hold.
-ghost use Rattle.std.specs.Prelude.{◌≡◌, ◌==◌, ◌++◌, ◌∷◌, [], map, filter, not, OnOk, false, if◌then◌else◌};
+ghost use Rattle.std.specs.Prelude.{◌≡◌, ◌==◌, ◌++◌, ◌∷◌, [], map, OnOk, false, if◌then◌else◌};
 ghost use Rattle.xd_ledger.specs.Numbers.{first_of, without};
 ghost use Rattle.xd_ledger.specs.Table.{at_seat, held_in, without_seat};
 ghost use Rattle.xd_report.specs.Follows.{seat_of_holder};

@@ -208,8 +208,8 @@ pub by_else : (a q x : Bool) → a ≡ false → x ≡ false → x ≡ (a && q)
 by_else a q x e f = rw (e, f) refl
 
 -- where the asked tests stand
-pub queued_is : (st : List Standing) (ahead q : List LineEntry) (n : ℕ) → n < length st → EachStandsAt st ahead q → once (ahead ++ q) ≡ true → queued_at st n ≡ has_test n q
-queued_is st ahead q n lt h o = go (slice_get_cases st n).1
+pub queued_is : (st : List Standing) (preceding q : List LineEntry) (n : ℕ) → n < length st → EachStandsAt st preceding q → once (preceding ++ q) ≡ true → queued_at st n ≡ has_test n q
+queued_is st preceding q n lt h o = go (slice_get_cases st n).1
   where
     seen : (a b : Bool) → (a ≡ true → b ≡ false) → is_queued (Some (standing_by a b)) ≡ b
     seen true b f = sym (f refl)
@@ -217,14 +217,14 @@ queued_is st ahead q n lt h o = go (slice_get_cases st n).1
     seen false false f = refl
 
     go : ((x : Standing) × (n < length st) × (slice_get st n ≡ Some x) × (get_or st n x ≡ x)) ⊎ ((length st ≤ n) × (slice_get st n ≡ None)) → queued_at st n ≡ has_test n q
-    go (inl (x, l, s, g)) = ap is_queued (s ∙ ap Some (sym g ∙ get_or_default st n x Free lt ∙ h.at n lt)) ∙ seen (has_test n ahead) (has_test n q) (once_apart n ahead q o)
+    go (inl (x, l, s, g)) = ap is_queued (s ∙ ap Some (sym g ∙ get_or_default st n x Free lt ∙ h.at n lt)) ∙ seen (has_test n preceding) (has_test n q) (once_apart n preceding q o)
     go (inr (le, s)) = absurd (omega arith)
 
-pub all_queued_is : (st : List Standing) (ahead q : List LineEntry) (before ns : List ℕ) → EachStandsAt st ahead q → once (ahead ++ q) ≡ true → can_ask (length st) before ns ≡ true → all_queued_at st ns ≡ all_queued q ns
-all_queued_is st ahead q before [] h o e = refl
-all_queued_is st ahead q before (n ∷ ns) h o e =
-    ap (λ (v : Bool). v && all_queued_at st ns) (queued_is st ahead q n (ltb-true _ _ (first (nat_lt n (length st)) (is_among n before) (can_ask (length st) (before ++ n ∷ []) ns) e)) h o)
-    ∙ ap (λ (v : Bool). has_test n q && v) (all_queued_is st ahead q (before ++ n ∷ []) ns h o (last (nat_lt n (length st) && not (is_among n before)) (can_ask (length st) (before ++ n ∷ []) ns) e))
+pub all_queued_is : (st : List Standing) (preceding q : List LineEntry) (before ns : List ℕ) → EachStandsAt st preceding q → once (preceding ++ q) ≡ true → can_ask (length st) before ns ≡ true → all_queued_at st ns ≡ all_queued q ns
+all_queued_is st preceding q before [] h o e = refl
+all_queued_is st preceding q before (n ∷ ns) h o e =
+    ap (λ (v : Bool). v && all_queued_at st ns) (queued_is st preceding q n (ltb-true _ _ (first (nat_lt n (length st)) (is_among n before) (can_ask (length st) (before ++ n ∷ []) ns) e)) h o)
+    ∙ ap (λ (v : Bool). has_test n q && v) (all_queued_is st preceding q (before ++ n ∷ []) ns h o (last (nat_lt n (length st) && not (is_among n before)) (can_ask (length st) (before ++ n ∷ []) ns) e))
   where
     first : (a b c : Bool) → ((a && not b) && c) ≡ true → a ≡ true
     first true b c e = refl
@@ -245,15 +245,15 @@ has_kept n ns (Test m ∷ q) = step (m == n) refl (is_among m ns) refl (has_kept
     step false z true y h = h
     step false z false y h = ap (λ (v : Bool). v || has_test n (kept ns q)) z ∙ h
 
-pub kept_stands : (ns : List ℕ) (before after : List Standing) (ahead q left : List LineEntry) (back : List ℕ) → TakenOut ns before q after [] back left → EachStandsAt before ahead q → once (ahead ++ q) ≡ true → (EachStandsAt after ahead left) × (back ≡ taken ns q) × (left ≡ kept ns q)
-kept_stands ns before after ahead q left back h st o =
+pub kept_stands : (ns : List ℕ) (before after : List Standing) (preceding q left : List LineEntry) (back : List ℕ) → TakenOut ns before q after [] back left → EachStandsAt before preceding q → once (preceding ++ q) ≡ true → (EachStandsAt after preceding left) × (back ≡ taken ns q) × (left ≡ kept ns q)
+kept_stands ns before after preceding q left back h st o =
     let all : q ≡ h.done = h.queue_is ∙ no_more h.done in
     let is_left : left ≡ kept ns q = h.left_is ∙ ap (kept ns) (sym all) in (
       record {
         at = λ n lt.
             let lt' : n < length before = subst (λ (i : ℕ). n < i) h.size lt in
             h.freed n lt' ∙ ap (λ (l : List LineEntry). freed_at (has_test n l && is_among n ns) (slice_index_or before n Free)) (sym all) ∙ ap (freed_at (has_test n q && is_among n ns)) (st.at n lt')
-            ∙ mixed (has_test n ahead) (has_test n q) (is_among n ns) (once_apart n ahead q o) ∙ ap (standing_by (has_test n ahead)) (sym (ap (has_test n) is_left ∙ has_kept n ns q));
+            ∙ mixed (has_test n preceding) (has_test n q) (is_among n ns) (once_apart n preceding q o) ∙ ap (standing_by (has_test n preceding)) (sym (ap (has_test n) is_left ∙ has_kept n ns q));
       },
       h.back_is ∙ ap (taken ns) (sym all),
       is_left,

@@ -28,22 +28,22 @@ or_last false = refl
 same_by : (a b c d : Bool) (s : Standing) → s ≡ standing_by a b → a ≡ c → b ≡ d → s ≡ standing_by c d
 same_by a b c d s e h k = rw (← h, ← k) e
 
-other_passes : (n : ℕ) (ahead q : List LineEntry) (m : ℕ) (t : Bool) (s : Standing) → (m == n) ≡ t → t ≡ false → s ≡ standing_by (has_test n ahead) (t || has_test n q) → s ≡ standing_of n (ahead ++ Test m ∷ []) q
-other_passes n ahead q m true s e z h = cc
-other_passes n ahead q m false s e z h = same_by (has_test n ahead) (has_test n q) _ _ s h (or_none _ ∙ ap (λ (v : Bool). has_test n ahead || (v || false)) (sym e) ∙ sym (has_test-append n ahead (Test m ∷ []))) refl
+other_passes : (n : ℕ) (preceding q : List LineEntry) (m : ℕ) (t : Bool) (s : Standing) → (m == n) ≡ t → t ≡ false → s ≡ standing_by (has_test n preceding) (t || has_test n q) → s ≡ standing_of n (preceding ++ Test m ∷ []) q
+other_passes n preceding q m true s e z h = cc
+other_passes n preceding q m false s e z h = same_by (has_test n preceding) (has_test n q) _ _ s h (or_none _ ∙ ap (λ (v : Bool). has_test n preceding || (v || false)) (sym e) ∙ sym (has_test-append n preceding (Test m ∷ []))) refl
 
-pub passed_one : (stands : List Standing) (ahead q : List LineEntry) (p : LineEntry) → EachStandsAt stands ahead (p ∷ q) → EachStandsAt (passing stands p) (ahead ++ p ∷ []) q
-passed_one stands ahead q (Test m) h = record { at = λ n lt. go n (rw length-set at lt) (m == n) refl }
+pub passed_one : (stands : List Standing) (preceding q : List LineEntry) (p : LineEntry) → EachStandsAt stands preceding (p ∷ q) → EachStandsAt (passing stands p) (preceding ++ p ∷ []) q
+passed_one stands preceding q (Test m) h = record { at = λ n lt. go n (rw length-set at lt) (m == n) refl }
   where
-    go : (n : ℕ) → n < length stands → (t : Bool) → (m == n) ≡ t → slice_index_or (slice_set stands m Passed) n Free ≡ standing_of n (ahead ++ Test m ∷ []) q
+    go : (n : ℕ) → n < length stands → (t : Bool) → (m == n) ≡ t → slice_index_or (slice_set stands m Passed) n Free ≡ standing_of n (preceding ++ Test m ∷ []) q
     go n lt true e =
         let same : m ≡ n = eqb-true m n e in
-        let here : has_test n (ahead ++ Test m ∷ []) ≡ true = has_test-append n ahead (Test m ∷ []) ∙ ap (λ (v : Bool). has_test n ahead || (v || false)) e ∙ or_last _ in
-        subst (λ (i : ℕ). get_or (slice_set stands i Passed) n Free ≡ standing_of n (ahead ++ Test m ∷ []) q) (sym same) (get_or-set_same stands n Passed Free lt ∙ ap (λ (v : Bool). standing_by v (has_test n q)) (sym here))
+        let here : has_test n (preceding ++ Test m ∷ []) ≡ true = has_test-append n preceding (Test m ∷ []) ∙ ap (λ (v : Bool). has_test n preceding || (v || false)) e ∙ or_last _ in
+        subst (λ (i : ℕ). get_or (slice_set stands i Passed) n Free ≡ standing_of n (preceding ++ Test m ∷ []) q) (sym same) (get_or-set_same stands n Passed Free lt ∙ ap (λ (v : Bool). standing_by v (has_test n q)) (sym here))
     go n lt false e =
         let ne : n ≢ m = λ z. eqb-false m n e (sym z) in
-        get_or-set_other stands m n Passed Free ne ∙ other_passes n ahead q m (m == n) (get_or stands n Free) refl e (h.at n lt)
-passed_one stands ahead q Mark h = record { at = λ n lt. same_by (has_test n ahead) (has_test n q) _ _ _ (h.at n lt) (or_none _ ∙ sym (has_test-append n ahead (Mark ∷ []))) refl }
+        get_or-set_other stands m n Passed Free ne ∙ other_passes n preceding q m (m == n) (get_or stands n Free) refl e (h.at n lt)
+passed_one stands preceding q Mark h = record { at = λ n lt. same_by (has_test n preceding) (has_test n q) _ _ _ (h.at n lt) (or_none _ ∙ sym (has_test-append n preceding (Mark ∷ []))) refl }
 
 pub cut_next : (next : Option LineEntry) (queue rest : List LineEntry) (stands : List Standing) (line : List LineEntry) (ended : ℕ) → IsCut None None queue stands line ended → queue ≡ option_to_list next ++ rest → (next ≡ None → rest ≡ []) → IsCut None next rest (passing_some stands next) line ended
 cut_next None queue rest stands line ended h e z = subst (λ (r : List LineEntry). IsCut None None r stands line ended) e h
@@ -79,7 +79,7 @@ cut_start n log p q stands line ended h = record {
 -- what is left of the line
 pub cut_left : (running : Option Running) (next : Option LineEntry) (queue : List LineEntry) (stands : List Standing) (line : List LineEntry) (ended : ℕ) → IsCut running next queue stands line ended → drop ended line ≡ running_places running ++ (option_to_list next ++ queue)
 cut_left running next queue stands line ended h =
-    rw (h.line_is) (behind h.done (running_places running) (option_to_list next) queue ended h.count)
+    rw (h.line_is) (following h.done (running_places running) (option_to_list next) queue ended h.count)
   where
-    behind : (a b c d : List LineEntry) (n : ℕ) → length a ≡ n → drop n ((a ++ (b ++ c)) ++ d) ≡ b ++ (c ++ d)
-    behind a b c d n e = grind (arith, common_steps)
+    following : (a b c d : List LineEntry) (n : ℕ) → length a ≡ n → drop n ((a ++ (b ++ c)) ++ d) ≡ b ++ (c ++ d)
+    following a b c d n e = grind (arith, common_steps)

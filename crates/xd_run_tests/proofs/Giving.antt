@@ -45,20 +45,20 @@ right_false true b e = e
 right_false false b e = refl
 
 -- a free test is put after the queue
-pub queued_one : (stands : List Standing) (ahead q : List LineEntry) (m : ℕ) → m < length stands → get_or stands m Free ≡ Free → EachStandsAt stands ahead q → EachStandsAt (slice_set stands m Queued) ahead (q ++ Test m ∷ [])
-queued_one stands ahead q m in_suite free h = record { at = λ n lt. go n (rw length-set at lt) (m == n) refl }
+pub queued_one : (stands : List Standing) (preceding q : List LineEntry) (m : ℕ) → m < length stands → get_or stands m Free ≡ Free → EachStandsAt stands preceding q → EachStandsAt (slice_set stands m Queued) preceding (q ++ Test m ∷ [])
+queued_one stands preceding q m in_suite free h = record { at = λ n lt. go n (rw length-set at lt) (m == n) refl }
   where
-    go : (n : ℕ) → n < length stands → (t : Bool) → (m == n) ≡ t → slice_index_or (slice_set stands m Queued) n Free ≡ standing_of n ahead (q ++ Test m ∷ [])
+    go : (n : ℕ) → n < length stands → (t : Bool) → (m == n) ≡ t → slice_index_or (slice_set stands m Queued) n Free ≡ standing_of n preceding (q ++ Test m ∷ [])
     go n lt true e =
         let same : m ≡ n = eqb-true m n e in
-        let was : Free ≡ standing_of n ahead q = subst (λ (i : ℕ). Free ≡ standing_of i ahead q) same (sym free ∙ h.at m in_suite) in
-        let not_ahead : has_test n ahead ≡ false = right_false _ _ (free_is _ _ was) in
+        let was : Free ≡ standing_of n preceding q = subst (λ (i : ℕ). Free ≡ standing_of i preceding q) same (sym free ∙ h.at m in_suite) in
+        let not_preceding : has_test n preceding ≡ false = right_false _ _ (free_is _ _ was) in
         let here : has_test n (q ++ Test m ∷ []) ≡ true = has_test-append n q (Test m ∷ []) ∙ ap (λ (v : Bool). has_test n q || (v || false)) e ∙ or_last _ in
-        subst (λ (i : ℕ). get_or (slice_set stands i Queued) n Free ≡ standing_of n ahead (q ++ Test m ∷ [])) (sym same)
-        (get_or-set_same stands n Queued Free lt ∙ same_by false true _ _ Queued refl (sym not_ahead) (sym here))
+        subst (λ (i : ℕ). get_or (slice_set stands i Queued) n Free ≡ standing_of n preceding (q ++ Test m ∷ [])) (sym same)
+        (get_or-set_same stands n Queued Free lt ∙ same_by false true _ _ Queued refl (sym not_preceding) (sym here))
     go n lt false e =
         let ne : n ≢ m = λ z. eqb-false m n e (sym z) in
-        get_or-set_other stands m n Queued Free ne ∙ same_by (has_test n ahead) (has_test n q) _ _ _ (h.at n lt) refl (or_none _ ∙ ap (λ (v : Bool). has_test n q || (v || false)) (sym e) ∙ sym (has_test-append n q (Test m ∷ [])))
+        get_or-set_other stands m n Queued Free ne ∙ same_by (has_test n preceding) (has_test n q) _ _ _ (h.at n lt) refl (or_none _ ∙ ap (λ (v : Bool). has_test n q || (v || false)) (sym e) ∙ sym (has_test-append n q (Test m ∷ [])))
 
 can_give-append : (size : ℕ) (line : List LineEntry) (a b : List ℕ) → can_give size line (a ++ b) ≡ (can_give size line a && can_give size (line ++ map Test a) b)
 can_give-append size line [] b = ap (λ (l : List LineEntry). can_give size l b) (sym (no_more line))
@@ -77,13 +77,13 @@ can_give-append size line (n ∷ a) b =
 pub appends_both : (s s1 s2 : List Standing) (q q1 q2 : List LineEntry) (a b : List ℕ) (v : Bool) → Appends s q s1 q1 a true → Appends s1 q1 s2 q2 b v → Appends s q s2 q2 (a ++ b) v
 appends_both s s1 s2 q q1 q2 a b v f g = record {
   size = g.size ∙ f.size;
-  gives = λ ahead h.
-      g.gives ahead (f.standing ahead refl h)
-      ∙ ap (λ (n : ℕ). can_give n (ahead ++ q1) b) f.size
-      ∙ ap (λ (l : List LineEntry). can_give (length s) l b) (ap (λ (l : List LineEntry). ahead ++ l) (f.queue_is refl) ∙ sym (append_assoc ahead q (map Test a)))
-      ∙ sym (can_give-append (length s) (ahead ++ q) a b ∙ ap (λ (x : Bool). x && can_give (length s) ((ahead ++ q) ++ map Test a) b) (sym (f.gives ahead h)));
+  gives = λ preceding h.
+      g.gives preceding (f.standing preceding refl h)
+      ∙ ap (λ (n : ℕ). can_give n (preceding ++ q1) b) f.size
+      ∙ ap (λ (l : List LineEntry). can_give (length s) l b) (ap (λ (l : List LineEntry). preceding ++ l) (f.queue_is refl) ∙ sym (append_assoc preceding q (map Test a)))
+      ∙ sym (can_give-append (length s) (preceding ++ q) a b ∙ ap (λ (x : Bool). x && can_give (length s) ((preceding ++ q) ++ map Test a) b) (sym (f.gives preceding h)));
   queue_is = λ e. g.queue_is e ∙ ap (λ (l : List LineEntry). l ++ map Test b) (f.queue_is refl) ∙ joined q a b;
-  standing = λ ahead e h. g.standing ahead e (f.standing ahead refl h);
+  standing = λ preceding e h. g.standing preceding e (f.standing preceding refl h);
 }
   where
     joined : (q : List LineEntry) (a b : List ℕ) → (q ++ map Test a) ++ map Test b ≡ q ++ map Test (a ++ b)
@@ -92,13 +92,13 @@ appends_both s s1 s2 q q1 q2 a b v f g = record {
 pub appends_stop : (s s1 : List Standing) (q q1 : List LineEntry) (a b : List ℕ) → Appends s q s1 q1 a false → Appends s q s1 q1 (a ++ b) false
 appends_stop s s1 q q1 a b f = record {
   size = f.size;
-  gives = λ ahead h. sym (can_give-append (length s) (ahead ++ q) a b ∙ ap (λ (x : Bool). x && can_give (length s) ((ahead ++ q) ++ map Test a) b) (sym (f.gives ahead h)));
+  gives = λ preceding h. sym (can_give-append (length s) (preceding ++ q) a b ∙ ap (λ (x : Bool). x && can_give (length s) ((preceding ++ q) ++ map Test a) b) (sym (f.gives preceding h)));
   queue_is = λ e. cc;
-  standing = λ ahead e h. let no : true ≡ false = sym e in cc;
+  standing = λ preceding e h. let no : true ≡ false = sym e in cc;
 }
 
 pub appends_none : (s : List Standing) (q : List LineEntry) → Appends s q s q [] true
-appends_none s q = record { size = refl; gives = λ ahead h. refl; queue_is = λ e. no_more q; standing = λ ahead e h. h }
+appends_none s q = record { size = refl; gives = λ preceding h. refl; queue_is = λ e. no_more q; standing = λ preceding e h. h }
   where
     no_more : (a : List LineEntry) → a ≡ a ++ []
     no_more a = grind (arith, common_steps)
@@ -116,8 +116,8 @@ free_within stands n e = go (slice_get_cases stands n).1
 pub le_not_below : (a b : ℕ) → b ≤ a → nat_lt a b ≡ false
 le_not_below a b le = grind (arith, nat_tests)
 
-pub free_gives : (stands : List Standing) (ahead q : List LineEntry) (n : ℕ) → EachStandsAt stands ahead q → free_at stands n ≡ can_give (length stands) (ahead ++ q) (n ∷ [])
-free_gives stands ahead q n h = go (slice_get_cases stands n).1
+pub free_gives : (stands : List Standing) (preceding q : List LineEntry) (n : ℕ) → EachStandsAt stands preceding q → free_at stands n ≡ can_give (length stands) (preceding ++ q) (n ∷ [])
+free_gives stands preceding q n h = go (slice_get_cases stands n).1
   where
     out : (a b c v : Bool) → a ≡ true → b ≡ c → v ≡ not c → v ≡ ((a && not b) && true)
     out true true true v e f g = g
@@ -130,32 +130,32 @@ free_gives stands ahead q n h = go (slice_get_cases stands n).1
     far false b v e f = f
     far true b v e f = let z : true ≡ false = e in cc
 
-    seen : (x : Standing) → get_or stands n Free ≡ x → n < length stands → x ≡ standing_by (has_test n ahead) (has_test n q)
+    seen : (x : Standing) → get_or stands n Free ≡ x → n < length stands → x ≡ standing_by (has_test n preceding) (has_test n q)
     seen x g lt = sym g ∙ h.at n lt
 
     same : (x : Standing) → n < length stands → get_or stands n x ≡ x → get_or stands n Free ≡ x
     same x lt g = get_or_default stands n Free x lt ∙ g
 
-    go : ((x : Standing) × (n < length stands) × (slice_get stands n ≡ Some x) × (get_or stands n x ≡ x)) ⊎ ((length stands ≤ n) × (slice_get stands n ≡ None)) → free_at stands n ≡ can_give (length stands) (ahead ++ q) (n ∷ [])
-    go (inl (Free, lt, s, g)) = out (nat_lt n (length stands)) _ false _ (lt-ltb _ _ lt) (has_test-append n ahead q ∙ free_is _ _ (seen Free g lt)) (ap is_free s)
-    go (inl (Queued, lt, s, g)) = out (nat_lt n (length stands)) _ true _ (lt-ltb _ _ lt) (has_test-append n ahead q ∙ not_free_is _ _ (λ z. let w : Queued ≡ Free = seen Queued (same Queued lt g) lt ∙ sym z in cc)) (ap is_free s)
-    go (inl (Passed, lt, s, g)) = out (nat_lt n (length stands)) _ true _ (lt-ltb _ _ lt) (has_test-append n ahead q ∙ not_free_is _ _ (λ z. let w : Passed ≡ Free = seen Passed (same Passed lt g) lt ∙ sym z in cc)) (ap is_free s)
+    go : ((x : Standing) × (n < length stands) × (slice_get stands n ≡ Some x) × (get_or stands n x ≡ x)) ⊎ ((length stands ≤ n) × (slice_get stands n ≡ None)) → free_at stands n ≡ can_give (length stands) (preceding ++ q) (n ∷ [])
+    go (inl (Free, lt, s, g)) = out (nat_lt n (length stands)) _ false _ (lt-ltb _ _ lt) (has_test-append n preceding q ∙ free_is _ _ (seen Free g lt)) (ap is_free s)
+    go (inl (Queued, lt, s, g)) = out (nat_lt n (length stands)) _ true _ (lt-ltb _ _ lt) (has_test-append n preceding q ∙ not_free_is _ _ (λ z. let w : Queued ≡ Free = seen Queued (same Queued lt g) lt ∙ sym z in cc)) (ap is_free s)
+    go (inl (Passed, lt, s, g)) = out (nat_lt n (length stands)) _ true _ (lt-ltb _ _ lt) (has_test-append n preceding q ∙ not_free_is _ _ (λ z. let w : Passed ≡ Free = seen Passed (same Passed lt g) lt ∙ sym z in cc)) (ap is_free s)
     go (inr (le, s)) = far (nat_lt n (length stands)) _ _ (le_not_below n (length stands) le) (ap is_free s)
 
 pub appends_one : (stands : List Standing) (q : List LineEntry) (n : ℕ) → free_at stands n ≡ true → Appends stands q (slice_set stands n Queued) (q ++ Test n ∷ []) (n ∷ []) true
 appends_one stands q n e = record {
   size = length-set stands n Queued;
-  gives = λ ahead h. sym e ∙ free_gives stands ahead q n h;
+  gives = λ preceding h. sym e ∙ free_gives stands preceding q n h;
   queue_is = λ z. refl;
-  standing = λ ahead z h. queued_one stands ahead q n (free_within stands n e).0 (free_within stands n e).1 h;
+  standing = λ preceding z h. queued_one stands preceding q n (free_within stands n e).0 (free_within stands n e).1 h;
 }
 
 pub appends_not : (stands : List Standing) (q : List LineEntry) (n : ℕ) → free_at stands n ≡ false → Appends stands q stands q (n ∷ []) false
 appends_not stands q n e = record {
   size = refl;
-  gives = λ ahead h. sym e ∙ free_gives stands ahead q n h;
+  gives = λ preceding h. sym e ∙ free_gives stands preceding q n h;
   queue_is = λ z. cc;
-  standing = λ ahead z h. h;
+  standing = λ preceding z h. h;
 }
 
 pub more_tests : (ns : List ℕ) (i : ℕ) → i < length ns → take (i + 1) ns ≡ take i ns ++ get_or ns i 0 ∷ []

@@ -122,7 +122,7 @@ same_next s r o = o ∙ ap (λ (n : Option LineEntry). record s { queue = r.queu
 
 -- places are put after the line
 pub lined_call : (s r : RunTests) (c : FunctionCall) (ps : List LineEntry) → c.phase ≡ Serving → r ≡ record s { queue = r.queue; stands = r.stands } → length r.stands.items ≡ length s.stands.items → r.queue.items ≡ s.queue.items ++ ps
-    → ((ahead : List LineEntry) → EachStandsAt s.stands.items ahead s.queue.items → EachStandsAt r.stands.items ahead r.queue.items) → once (c.line ++ ps) ≡ true → IsCall s c → IsCall r (record c { line = c.line ++ ps })
+    → ((preceding : List LineEntry) → EachStandsAt s.stands.items preceding s.queue.items → EachStandsAt r.stands.items preceding r.queue.items) → once (c.line ++ ps) ≡ true → IsCall s c → IsCall r (record c { line = c.line ++ ps })
 lined_call s r c ps serves o size qu st once_more h =
     let old = h.cut serves in
     let run : r.running ≡ s.running = ap (λ (x : RunTests). x.running) o in
@@ -158,18 +158,18 @@ can_is s r c ns b serves h a =
     ∙ ap (λ (l : List LineEntry). can_give c.size l ns) (sym old.line_is)
 
 pub given_call : (s r : RunTests) (c : FunctionCall) (ns : List ℕ) → c.phase ≡ Serving → r ≡ record s { queue = r.queue; stands = r.stands } → Appends s.stands.items s.queue.items r.stands.items r.queue.items ns true → IsCall s c → IsCall r (record c { line = c.line ++ map Test ns })
-given_call s r c ns serves o a h = lined_call s r c (map Test ns) serves o a.size (a.queue_is refl) (λ ahead. a.standing ahead refl) (once_given c.size c.line ns (sym (can_is s r c ns true serves h a)) h.held.once_is) h
+given_call s r c ns serves o a h = lined_call s r c (map Test ns) serves o a.size (a.queue_is refl) (λ preceding. a.standing preceding refl) (once_given c.size c.line ns (sym (can_is s r c ns true serves h a)) h.held.once_is) h
 
 pub bad_held : (s r : RunTests) (c : FunctionCall) → r ≡ record s { queue = r.queue; stands = r.stands } → length r.stands.items ≡ length s.stands.items → IsHeld s c → IsHeld r c
 bad_held s r c o size h = held_parts s r c (same_next s r o) size h
 
 -- a mark does not change where tests stand
-pub marked_stands : (stands : List Standing) (ahead q : List LineEntry) → EachStandsAt stands ahead q → EachStandsAt stands ahead (q ++ Mark ∷ [])
-marked_stands stands ahead q h = record { at = λ n lt. h.at n lt ∙ ap (λ (v : Bool). standing_by (has_test n ahead) v) (none (has_test n q) ∙ sym (has_test-append n q (Mark ∷ []))) }
+pub marked_stands : (stands : List Standing) (preceding q : List LineEntry) → EachStandsAt stands preceding q → EachStandsAt stands preceding (q ++ Mark ∷ [])
+marked_stands stands preceding q h = record { at = λ n lt. h.at n lt ∙ ap (λ (v : Bool). standing_by (has_test n preceding) v) (none (has_test n q) ∙ sym (has_test-append n q (Mark ∷ []))) }
   where
     none : (a : Bool) → a ≡ (a || false)
     none true = refl
     none false = refl
 
-pub marked_both : (stands st : List Standing) (q r ahead : List LineEntry) → st ≡ stands → r ≡ q ++ Mark ∷ [] → EachStandsAt stands ahead q → EachStandsAt st ahead r
-marked_both stands st q r ahead e f h = rw (e, f) (marked_stands stands ahead q h)
+pub marked_both : (stands st : List Standing) (q r preceding : List LineEntry) → st ≡ stands → r ≡ q ++ Mark ∷ [] → EachStandsAt stands preceding q → EachStandsAt st preceding r
+marked_both stands st q r preceding e f h = rw (e, f) (marked_stands stands preceding q h)

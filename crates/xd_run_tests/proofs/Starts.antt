@@ -118,10 +118,10 @@ finished_begun s t b = same_line s t (finished t) refl refl refl refl (λ e. cc)
 
 -- where nothing runs, what is left is what is not gone through
 left_rest : (s : List ℕ) (t : CallTurn) (b : Begun s t) → t.call.running ≡ false → left t.call ≡ b.rest
-left_rest s t b idle = ap (drop t.call.ended) b.line_is ∙ behind b.gone b.rest t.call.ended (b.count ∙ none t.call.ended t.call.running idle)
+left_rest s t b idle = ap (drop t.call.ended) b.line_is ∙ following b.gone b.rest t.call.ended (b.count ∙ none t.call.ended t.call.running idle)
   where
-    behind : (a c : List LineEntry) (n : ℕ) → length a ≡ n → drop n (a ++ c) ≡ c
-    behind a c n e = grind (arith, common_steps)
+    following : (a c : List LineEntry) (n : ℕ) → length a ≡ n → drop n (a ++ c) ≡ c
+    following a c n e = grind (arith, common_steps)
 
     none : (a : ℕ) (x : Bool) → x ≡ false → a + (if x then 1 else 0) ≡ a
     none a x e = rw e (omega arith)

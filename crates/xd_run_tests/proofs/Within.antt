@@ -20,7 +20,7 @@ use Rattle.xd_run_tests.specs.declared.input.Input.{Input}
 use Rattle.xd_run_tests.specs.declared.input.Input.TheVariants as input
 use Rattle.xd_run_tests.specs.Line.{FunctionCall, left, front, queue, passed, running_test, head_test, has_test, is_among, can_give, can_ask, all_queued, kept, taken}
 use Rattle.xd_run_tests.specs.Turns.{CallTurn, call_turn_of, answered, over, ended_early, ending_text, asking, test_started, has_log, too_many_channels, moved_on, line_settled, given, stolen, stolen_if, told, item_heard_in, item_heard, all_heard, collected_in, receiving_ended_in, suite_refused_in, put_out, output_fed, told_done, done_of}
-use Rattle.xd_run_tests.specs.History.{Given, call_after, turn_after, size_opened, size_behind, KnownTests}
+use Rattle.xd_run_tests.specs.History.{Given, call_after, turn_after, size_opened, size_after, KnownTests}
 use Rattle.xd_run_tests.proofs.Once.{and_first, and_last, and_both}
 
 abbrev within : ℕ → List LineEntry → Bool
@@ -205,7 +205,7 @@ done_within k (Some n) Stopped room outcome ms t w = record { size_is = w.size_i
 done_within k (Some n) Awaiting room outcome ms t w = w
 done_within k (Some n) Over room outcome ms t w = w
 
-answered_within : (k : ℕ) (room : Bool) (i : Input) (t : CallTurn) → t.run ≡ None → Within k t → Within (size_behind t.call.phase i k) (answered room i t)
+answered_within : (k : ℕ) (room : Bool) (i : Input) (t : CallTurn) → t.run ≡ None → Within k t → Within (size_after t.call.phase i k) (answered room i t)
 answered_within k room (input.Command o) t none w = heard_within k t.call.phase room o t w
 answered_within k room input.ReceivingEnded t none w = receiving_within k t.call.phase t w
 answered_within k room (input.Suite ids) t none w = collected_within k t.call.phase room ids t none w
@@ -218,8 +218,8 @@ within_after : (h : List Given) → Within (call_after h).size (call_turn_of (ca
 within_after [] = record { size_is = refl; line_in = refl; run_in = refl }
 within_after (g ∷ h) = let w = answered_within (call_after h).size g.room g.input (call_turn_of (call_after h)) refl (within_after h) in record { size_is = refl; line_in = w.line_in; run_in = refl }
 
-within_behind : (h : List Given) (g : Given) → Within (size_behind (call_after h).phase g.input (call_after h).size) (turn_after h g)
-within_behind h g = answered_within (call_after h).size g.room g.input (call_turn_of (call_after h)) refl (within_after h)
+within_next : (h : List Given) (g : Given) → Within (size_after (call_after h).phase g.input (call_after h).size) (turn_after h g)
+within_next h g = answered_within (call_after h).size g.room g.input (call_turn_of (call_after h)) refl (within_after h)
 
 running_within : (c : FunctionCall) (n : ℕ) → within c.size c.line ≡ true → running_test c ≡ Some n → n < c.size
 running_within c n w e = go c.running e
@@ -233,7 +233,7 @@ run_within size n run w e = ltb-true n size (ap (is_below size) (sym e) ∙ w)
 
 pub all_known : KnownTests
 all_known = record {
-  size = λ h g. (within_behind h g).size_is;
+  size = λ h g. (within_next h g).size_is;
   runs = λ h n e. running_within (call_after h) n (within_after h).line_in e;
-  starts = λ h g n e. run_within (turn_after h g).call.size n (turn_after h g).run (within_behind h g).run_in e;
+  starts = λ h g n e. run_within (turn_after h g).call.size n (turn_after h g).run (within_next h g).run_in e;
 }

@@ -55,18 +55,18 @@ size_opened Stopped ids n = n
 size_opened Over ids n = n
 
 -- how many tests the suite has after an input
-abbrev pub size_behind : Phase → Input → ℕ → ℕ
-size_behind p (input.Command o) n = n
-size_behind p input.ReceivingEnded n = n
-size_behind p (input.Suite ids) n = size_opened p ids n
-size_behind p (input.SuiteRefused text) n = n
-size_behind p (input.Output bytes) n = n
-size_behind p (input.Done outcome ms) n = n
-size_behind p input.Stop n = n
+abbrev pub size_after : Phase → Input → ℕ → ℕ
+size_after p (input.Command o) n = n
+size_after p input.ReceivingEnded n = n
+size_after p (input.Suite ids) n = size_opened p ids n
+size_after p (input.SuiteRefused text) n = n
+size_after p (input.Output bytes) n = n
+size_after p (input.Done outcome ms) n = n
+size_after p input.Stop n = n
 
 -- Whatever comes, a test that runs or that is started is one of the suite.
 pub record KnownTests : Type 0 where
-  pub size : (h : List Given) (g : Given) → (turn_after h g).call.size ≡ size_behind (call_after h).phase g.input (call_after h).size
+  pub size : (h : List Given) (g : Given) → (turn_after h g).call.size ≡ size_after (call_after h).phase g.input (call_after h).size
   pub runs : (h : List Given) (n : ℕ) → running_test (call_after h) ≡ Some n → n < (call_after h).size
   pub starts : (h : List Given) (g : Given) (n : ℕ) → (turn_after h g).run ≡ Some n → n < (turn_after h g).call.size
 

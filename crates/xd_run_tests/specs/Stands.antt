@@ -46,11 +46,11 @@ free_at stands n = is_free (slice_get stands n)
 
 -- where a test stands that is before the queue, or in it, or neither
 abbrev pub standing_by : Bool → Bool → Standing
-standing_by is_ahead is_queued = if is_ahead then Passed else (if is_queued then Queued else Free)
+standing_by is_past is_queued = if is_past then Passed else (if is_queued then Queued else Free)
 
 -- where a test stands, by the entries before the queue and those in it
 abbrev pub standing_of : ℕ → List LineEntry → List LineEntry → Standing
-standing_of n ahead queue = standing_by (has_test n ahead) (has_test n queue)
+standing_of n preceding queue = standing_by (has_test n preceding) (has_test n queue)
 
 -- no test stands twice
 abbrev pub once : List LineEntry → Bool
@@ -109,8 +109,8 @@ pub record TakenOut (ns : List ℕ) (before : List Standing) (queue : List LineE
   pub freed : (n : ℕ) → n < length before → slice_index_or after n Free ≡ freed_at (has_test n done && is_among n ns) (slice_index_or before n Free)
 
 -- where each test of the suite stands
-pub record EachStandsAt (stands : List Standing) (ahead queue : List LineEntry) : Type 0 where
-  pub at : (n : ℕ) → n < length stands → slice_index_or stands n Free ≡ standing_of n ahead queue
+pub record EachStandsAt (stands : List Standing) (preceding queue : List LineEntry) : Type 0 where
+  pub at : (n : ℕ) → n < length stands → slice_index_or stands n Free ≡ standing_of n preceding queue
 
 -- the line is cut into the ended tests, the running one, the next entry and the queue
 pub record IsCut (running : Option Running) (next : Option LineEntry) (queue : List LineEntry) (stands : List Standing) (line : List LineEntry) (ended : ℕ) : Type 0 where
@@ -172,6 +172,6 @@ pub record Stands (s : RunTests) (a : Acts) (t : CallTurn) : Type 0 where
 -- tests were put at a queue's end, or one of them cannot be
 pub record Appends (stands : List Standing) (queue : List LineEntry) (stands' : List Standing) (queue' : List LineEntry) (ns : List ℕ) (b : Bool) : Type 0 where
   pub size : length stands' ≡ length stands
-  pub gives : (ahead : List LineEntry) → EachStandsAt stands ahead queue → b ≡ can_give (length stands) (ahead ++ queue) ns
+  pub gives : (preceding : List LineEntry) → EachStandsAt stands preceding queue → b ≡ can_give (length stands) (preceding ++ queue) ns
   pub queue_is : b ≡ true → queue' ≡ queue ++ map Test ns
-  pub standing : (ahead : List LineEntry) → b ≡ true → EachStandsAt stands ahead queue → EachStandsAt stands' ahead queue'
+  pub standing : (preceding : List LineEntry) → b ≡ true → EachStandsAt stands preceding queue → EachStandsAt stands' preceding queue'

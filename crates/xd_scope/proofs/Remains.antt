@@ -12,7 +12,7 @@ use Rattle.xd_ledger.specs.Numbers.{all_distinct, among, first_of}
 use Rattle.xd_ledger.specs.Plan.{Handed}
 use Rattle.xd_ledger.specs.Table.{retried_item}
 use Rattle.xd_ledger.specs.Units.{unless_empty, units_left}
-use Rattle.xd_ledger.proofs.Lists.{ahead-at, among-at, among-append, final-take}
+use Rattle.xd_ledger.proofs.Lists.{preceding-at, among-at, among-append, final-take}
 use Rattle.xd_scope.specs.Stands.{IsSetOf, left_of, left_of_each, units_of}
 
 -- the set of the last items
@@ -43,7 +43,7 @@ in-pool xs ys k x h at =
     among-append x xs ys ∙ rw a
 
 pub previous-at : (xs : List ℕ) (k x : ℕ) (next : Option ℕ) → k < length xs → all_distinct xs ≡ true → x ≡ get_or xs k 0 → next ≡ final_of (part_before x xs) → next ≡ final_of (take k xs)
-previous-at xs k x next h d at e = e ∙ ap (λ (z : ℕ). final_of (part_before z xs)) at ∙ ap final_of (ahead-at xs k h d)
+previous-at xs k x next h d at e = e ∙ ap (λ (z : ℕ). final_of (part_before z xs)) at ∙ ap final_of (preceding-at xs k h d)
 
 pub none-yet : (xs : List ℕ) (x : ℕ) → among x (drop (length xs) xs) ≡ false
 none-yet [] x = refl

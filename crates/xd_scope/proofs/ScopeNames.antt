@@ -118,8 +118,8 @@ none-in bs u lack = elim (cases_Bool (has_colons (chars bs))) [
 ]
 
 -- none stands before the first
-none-ahead : (bs rest : List ℕ) (i : ℕ) → IsUtf8 bs → IsUtf8 (take i bs) → length (take i bs) ≡ i → drop i bs ≡ 58 ∷ 58 ∷ rest → ((k : ℕ) → k < i → LacksTextAt colons bs k) → has_colons (chars (take i bs) ++ 58 ∷ []) ≡ false
-none-ahead bs rest i u f n h lack = elim (cases_Bool (has_colons (chars (take i bs) ++ 58 ∷ []))) [
+none-preceding : (bs rest : List ℕ) (i : ℕ) → IsUtf8 bs → IsUtf8 (take i bs) → length (take i bs) ≡ i → drop i bs ≡ 58 ∷ 58 ∷ rest → ((k : ℕ) → k < i → LacksTextAt colons bs k) → has_colons (chars (take i bs) ++ 58 ∷ []) ≡ false
+none-preceding bs rest i u f n h lack = elim (cases_Bool (has_colons (chars (take i bs) ++ 58 ∷ []))) [
   | inr k ↦ k
   | inl k ↦
       (let xs = chars (take i bs) in
@@ -135,8 +135,8 @@ none-ahead bs rest i u f n h lack = elim (cases_Bool (has_colons (chars (take i 
 ]
 
 -- none stands after the last
-none-behind : (bs rest : List ℕ) (i : ℕ) → IsUtf8 bs → IsUtf8 (take i bs) → length (take i bs) ≡ i → drop i bs ≡ 58 ∷ 58 ∷ rest → ((k : ℕ) → i < k → k ≤ length bs → LacksTextAt colons bs k) → has_colons (58 ∷ chars rest) ≡ false
-none-behind bs rest i u f n h lack = elim (cases_Bool (has_colons (58 ∷ chars rest))) [
+none-following : (bs rest : List ℕ) (i : ℕ) → IsUtf8 bs → IsUtf8 (take i bs) → length (take i bs) ≡ i → drop i bs ≡ 58 ∷ 58 ∷ rest → ((k : ℕ) → i < k → k ≤ length bs → LacksTextAt colons bs k) → has_colons (58 ∷ chars rest) ≡ false
+none-following bs rest i u f n h lack = elim (cases_Bool (has_colons (58 ∷ chars rest))) [
   | inr k ↦ k
   | inl k ↦
       (let xs = chars (take i bs) in
@@ -165,7 +165,7 @@ first-found bs front back u m =
     let j = m.1 in
     let at = m.2.1 in
     let p = utf8-front bs (drop j bs) i u at.split in
-    let none = none-ahead bs (drop j bs) i u p.0 p.1 at.split m.2.0 in
+    let none = none-preceding bs (drop j bs) i u p.0 p.1 at.split m.2.0 in
     ap chars m.3 ∙ sym (ap before_first (cut bs (drop j bs) i u at.split) ∙ first-at (chars (take i bs)) (chars (drop j bs)) none)
 
 pub first-missing : (bs : List ℕ) → IsUtf8 bs → FindsText colons bs None → chars bs ≡ before_first (chars bs)
@@ -177,7 +177,7 @@ last-found bs front back u m =
     let j = m.1 in
     let at = m.2.1 in
     let p = utf8-front bs (drop j bs) i u at.split in
-    let none = none-behind bs (drop j bs) i u p.0 p.1 at.split m.2.0 in
+    let none = none-following bs (drop j bs) i u p.0 p.1 at.split m.2.0 in
     ap chars m.3 ∙ sym (ap before_last (cut bs (drop j bs) i u at.split) ∙ last-at (chars (take i bs)) (chars (drop j bs)) none)
 
 pub last-missing : (bs : List ℕ) → IsUtf8 bs → RFindsText colons bs None → chars bs ≡ before_last (chars bs)
@@ -204,9 +204,9 @@ group-none whole (x ∷ cs) h =
     let b : has_character 64 cs ≡ false = grind (arith, nat_tests) in
     rw a (group-none whole cs b)
 
-group-behind : (whole xs ys : List ℕ) → has_character 64 ys ≡ false → has_character 93 ys ≡ false → group_in whole (xs ++ 64 ∷ ys) ≡ ys
-group-behind whole [] ys h k = rw (h, k)
-group-behind whole (x ∷ xs) ys h k = rw (has-in 64 xs ys, bool-and-false (x == 64)) (group-behind whole xs ys h k)
+group-following : (whole xs ys : List ℕ) → has_character 64 ys ≡ false → has_character 93 ys ≡ false → group_in whole (xs ++ 64 ∷ ys) ≡ ys
+group-following whole [] ys h k = rw (h, k)
+group-following whole (x ∷ xs) ys h k = rw (has-in 64 xs ys, bool-and-false (x == 64)) (group-following whole xs ys h k)
 
 group-whole : (whole xs ys : List ℕ) → has_character 64 ys ≡ false → has_character 93 ys ≡ true → group_in whole (xs ++ 64 ∷ ys) ≡ whole
 group-whole whole [] ys h k = rw (h, k) (group-none whole ys h)
@@ -221,20 +221,20 @@ some-of bs i j u at =
     ap (has_character 93) (cut-before bs (drop j bs) i 93 (omega arith) u here ∙ ap (λ (z : List ℕ). chars (take i bs) ++ z) (chars-bracket (drop j bs))) ∙ has-in 93 (chars (take i bs)) (chars (drop j bs))
 
 -- the text is cut at its last '@'
-record IsCut (bs behind : List ℕ) : Type 0 where
+record IsCut (bs following : List ℕ) : Type 0 where
   front : List ℕ
-  whole : chars bs ≡ front ++ 64 ∷ chars behind
-  last : has_character 64 (chars behind) ≡ false
+  whole : chars bs ≡ front ++ 64 ∷ chars following
+  last : has_character 64 (chars following) ≡ false
 
-utf8-behind : (bs front back : List ℕ) → IsUtf8 bs → SplitsAroundMatch (RFindsChar 64) bs front back → IsUtf8 back
-utf8-behind bs front back u m =
+utf8-following : (bs front back : List ℕ) → IsUtf8 bs → SplitsAroundMatch (RFindsChar 64) bs front back → IsUtf8 back
+utf8-following bs front back u m =
     let at = m.2.1 in
     let edge = subst (λ (k : ℕ). IsCharBoundary bs k) (sym at.ends) at.after in
     subst (λ (z : List ℕ). IsUtf8 z) (sym m.4) (IsUtf8-drop bs m.1 u edge)
 
 cut-last : (bs front back : List ℕ) → IsUtf8 bs → SplitsAroundMatch (RFindsChar 64) bs front back → IsCut bs back
 cut-last bs front back u m =
-    let v = utf8-behind bs front back u m in
+    let v = utf8-following bs front back u m in
     let i = m.0 in
     let j = m.1 in
     let at = m.2.1 in
@@ -250,12 +250,12 @@ group-missing bs u m = sym (group-none (chars bs) (chars bs) (none-of 64 bs u m)
 
 pub group-found : (bs front back : List ℕ) → IsUtf8 bs → SplitsAroundMatch (RFindsChar 64) bs front back → FindsChar 93 back None → chars back ≡ group_in (chars bs) (chars bs)
 group-found bs front back u m none =
-    let v = utf8-behind bs front back u m in
+    let v = utf8-following bs front back u m in
     let k = cut-last bs front back u m in
-    sym (ap (group_in (chars bs)) k.whole ∙ group-behind (chars bs) k.front (chars back) k.last (none-of 93 back v none))
+    sym (ap (group_in (chars bs)) k.whole ∙ group-following (chars bs) k.front (chars back) k.last (none-of 93 back v none))
 
 pub group-refused : (bs front back : List ℕ) (i j : ℕ) → IsUtf8 bs → SplitsAroundMatch (RFindsChar 64) bs front back → FindsChar 93 back (Some (i, j)) → chars bs ≡ group_in (chars bs) (chars bs)
 group-refused bs front back i j u m some =
-    let v = utf8-behind bs front back u m in
+    let v = utf8-following bs front back u m in
     let k = cut-last bs front back u m in
     sym (ap (group_in (chars bs)) k.whole ∙ group-whole (chars bs) k.front (chars back) k.last (some-of back i j v some.1))

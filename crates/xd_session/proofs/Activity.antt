@@ -152,5 +152,5 @@ keeps_active settings w = record {
   settled = λ s es k. record { active = k.active; known = k.known };
 }
 
-pub active-behind : (settings : Settings) (inputs : List Entry) (w : ℕ) → IsProper settings inputs → Now w (after_inputs (after_starts settings) inputs) (journal_of settings inputs)
-active-behind settings inputs w p = journal-keeps settings inputs (Now w) (keeps_active settings w) p (record { active = refl; known = λ h. absurd (differ h) })
+pub active-following : (settings : Settings) (inputs : List Entry) (w : ℕ) → IsProper settings inputs → Now w (after_inputs (after_starts settings) inputs) (journal_of settings inputs)
+active-following settings inputs w p = journal-keeps settings inputs (Now w) (keeps_active settings w) p (record { active = refl; known = λ h. absurd (differ h) })

@@ -1,11 +1,9 @@
 -- Collections: where they differ, and which one is kept for a slot.
-use Rattle.std.proofs.Common.{◌≡◌, ℕ, zero, suc, ◌+◌, ◌<◌, ◌≤◌, List, [], ◌∷◌, ◌++◌, take, drop, length, get_or, refl, ap, sym, ◌∙◌, arith, Bool, true, false, not, ◌&&◌, ◌||◌, cond, length-append, Result, Ok, Err}
-use Rattle.std.specs.Prelude.{◌==◌, encode_utf8, Option, Some, None, OnOk, OnErr}
-use Rattle.std.proofs.lemmas.Bool.Decides.{nat_tests, same_from_decides}
+use Rattle.std.proofs.Common.{◌≡◌, ℕ, zero, suc, ◌+◌, ◌<◌, ◌≤◌, List, [], ◌∷◌, ◌++◌, take, drop, length, get_or, refl, ap, sym, ◌∙◌, arith, Bool, true, false, not, ◌&&◌, ◌||◌, cond, Result, Ok, Err}
+use Rattle.std.specs.Prelude.{Option, Some, None, OnOk, OnErr}
+use Rattle.std.proofs.lemmas.Bool.Decides.{nat_tests}
 use Rattle.std.proofs.lemmas.List.{take_more, take-append-drop}
 use Rattle.std.proofs.lemmas.List.Folds.{list_all-append, list_any-append}
-use Rattle.std.proofs.lemmas.Str.{encodes_same, encodes-chars, length-encode, len_utf8_bounds}
-use Rattle.std.proofs.lemmas.Slice.Eq.{bytes_eq-Decides}
 use Rattle.std.proofs.lemmas.Map.Text.{is_eq-slice_cmp}
 use Rattle.std.specs.List.{list_all, list_any}
 use Rattle.std.specs.Borrow.{Bor}
@@ -13,7 +11,8 @@ use Rattle.std.specs.BTreeSet.{BTreeSet, contains, Updates}
 use Rattle.std.specs.Cmp.Lexicographic.{slice_cmp}
 use Rattle.std.specs.declared.cmp.Ordering.{Ordering}
 use Rattle.std.specs.Ordering.{is_eq, nat_cmp}
-use Rattle.std.specs.Str.{bytes_eq, chars, IsUtf8, encode_utf8_all}
+use Rattle.std.specs.Str.{bytes_eq, encode_utf8_all}
+use Rattle.xd_edge.proofs.TextLemmas.{bytes_eq-encodes, bytes_eq-sym}
 use Rattle.xd_ledger.specs.declared.member.Listed.{Listed}
 use Rattle.xd_journal.specs.declared.entry.Ids.TheVariants as ids
 use Rattle.xd_ledger.specs.Books.{Books}
@@ -72,29 +71,7 @@ list-found w p ls x k h g =
 pub list-missing : (w p : ℕ) (ls : List Listed) → p ≡ place_in_lists w ls → length ls ≤ p → listed_in w ls ≡ None
 list-missing w p ls k h = list-none w ls (omega (arith, k, h))
 
--- a text is empty where it has no character
-
-encodes-empty : (cs bs : List ℕ) → encode_utf8_all cs ≡ bs → (length bs == 0) ≡ (length cs == 0)
-encodes-empty [] bs e = ap (λ (l : List ℕ). length l == 0) (sym e)
-encodes-empty (c ∷ cs) bs e =
-    let some : 0 < length (encode_utf8 c ++ encode_utf8_all cs) = omega (arith, length-append (encode_utf8 c) (encode_utf8_all cs), length-encode c, (len_utf8_bounds c).0) in
-    let more : 0 < length bs = omega (arith, ap length e) in
-    grind arith
-
-pub length-chars-0 : (bs : List ℕ) → IsUtf8 bs → (length bs == 0) ≡ (length (chars bs) == 0)
-length-chars-0 bs utf8 = encodes-empty (chars bs) bs (encodes-chars bs utf8)
-
 -- texts that stand once
-
-bytes_eq-encodes : (a b : List ℕ) → bytes_eq (encode_utf8_all a) (encode_utf8_all b) ≡ bytes_eq a b
-bytes_eq-encodes a b =
-    let there = bytes_eq-Decides (encode_utf8_all a) (encode_utf8_all b) in
-    same_from_decides (bytes_eq (encode_utf8_all a) (encode_utf8_all b)) (bytes_eq a b) (λ is. encodes_same a b (there.0 is), λ is. there.1 (ap encode_utf8_all is)) (bytes_eq-Decides a b)
-
-bytes_eq-sym : (a b : List ℕ) → bytes_eq a b ≡ bytes_eq b a
-bytes_eq-sym a b =
-    let back = bytes_eq-Decides b a in
-    same_from_decides (bytes_eq a b) (bytes_eq b a) (bytes_eq-Decides a b) (λ is. sym (back.0 is), λ is. back.1 (sym is))
 
 abbrev pub TextSet : Type 0
 TextSet = BTreeSet (Bor (List ℕ))

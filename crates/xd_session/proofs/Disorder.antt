@@ -12,7 +12,8 @@ use Rattle.xd_ledger.specs.Books.{Books}
 use Rattle.xd_ledger.specs.Collections.{differ_at, key, listed, listed_in}
 use Rattle.xd_ledger.specs.Meaning.{given_ids}
 use Rattle.xd_edge.specs.Limits.{most_tests}
-use Rattle.xd_ledger.specs.Proper.{is_id, may_follow, no_text_twice}
+use Rattle.xd_edge.specs.Ids.{is_id}
+use Rattle.xd_ledger.specs.Proper.{may_follow, no_text_twice}
 use Rattle.xd_ledger.specs.Sharing.{State}
 use Rattle.xd_ledger.specs.Workers.{is_active, was_ready, has_collected}
 use Rattle.xd_laws.proofs.Logic.{and-false, cases_of, differ}

@@ -153,5 +153,5 @@ joins-starts : (s : State) (w n : ℕ) → AllCollected s → AllCollected (afte
 joins-starts s w zero k = k
 joins-starts s w (suc n) k = joins-starts (after_effect s (Start w w)) (w + 1) n (start-keeps s.books.table.who_joined s.books.members w w k)
 
-pub joins-behind : (settings : Settings) (ins : List Entry) → IsProper settings ins → AllCollected (after_inputs (after_starts settings) ins)
-joins-behind settings ins p = joins-all (after_starts settings) ins p.follow (orderly settings ins p) (joins-starts (no_one settings) 0 settings.workers (λ v a. absurd (differ a)))
+pub joins-following : (settings : Settings) (ins : List Entry) → IsProper settings ins → AllCollected (after_inputs (after_starts settings) ins)
+joins-following settings ins p = joins-all (after_starts settings) ins p.follow (orderly settings ins p) (joins-starts (no_one settings) 0 settings.workers (λ v a. absurd (differ a)))

@@ -20,20 +20,21 @@ use Rattle.xd_ledger.specs.Stops.{is_stopped, or_stop}
 use Rattle.xd_ledger.specs.Numbers.{all_among, all_distinct, among, first_of, times}
 use Rattle.xd_ledger.specs.Plan.{UnansweredSteal, Plan, is_each, items_named, total}
 use Rattle.xd_edge.specs.Limits.{most_tests}
-use Rattle.xd_ledger.specs.Proper.{is_id, may_follow, may_give_back, names_head, no_text_twice}
+use Rattle.xd_edge.specs.Ids.{is_id}
+use Rattle.xd_ledger.specs.Proper.{may_follow, may_give_back, names_head, no_text_twice}
 use Rattle.xd_ledger.specs.Sharing.{State}
 use Rattle.xd_ledger.specs.Sound.{most_items}
 use Rattle.xd_ledger.specs.Table.{Table, all_items, held, in_rota}
 use Rattle.xd_ledger.specs.Workers.{has_collected, is_active, slot_of, was_ready}
 use Rattle.xd_laws.specs.Called.{Reached}
 use Rattle.xd_laws.proofs.Calls.{tidy-reached}
-use Rattle.xd_laws.proofs.Counts.{among-times, distinct-of_times, times-behind_range}
+use Rattle.xd_laws.proofs.Counts.{among-times, distinct-of_times, times-after_range}
 use Rattle.xd_laws.proofs.Counts.{all_among-drop, among-drop, distinct-plus}
 use Rattle.xd_laws.proofs.Logic.{and, cases_of, differ, in_both, split-and}
 use Rattle.xd_laws.proofs.Placed.{StealFits, at_most_once, due_times}
 use Rattle.xd_laws.proofs.Places.{held-within, times-table}
 use Rattle.xd_laws.proofs.Turns.{Tidy}
-use Rattle.xd_session.specs.Known.{Known, first_item, is_behind, known_of, where_is}
+use Rattle.xd_session.specs.Known.{Known, first_item, is_after, known_of, where_is}
 use Rattle.xd_session.specs.Rules.{At, Comes}
 use Rattle.xd_session.proofs.Acts.{done-at}
 use Rattle.xd_session.proofs.Deaths.{no_seat-held}
@@ -108,7 +109,7 @@ held-low s w x d h = elim (cases_of (nat_lt x (total s.plan))) [
 ]
   where
     none-due : (v n : ℕ) (b : Bool) → n ≤ v → due_times v b n ≡ 0
-    none-due v n true l = times-behind_range v 0 n (omega (arith, l))
+    none-due v n true l = times-after_range v 0 n (omega (arith, l))
     none-due v n false l = refl
 
 -- each is small, where the run has few
@@ -116,9 +117,9 @@ pub held-small : (s : State) (w x : ℕ) → Reached s → sum s.plan.sizes ≤ 
 held-small s w x r few h = (let a = held-low s w x (tidy-reached s r) h in omega (arith, a, few))
 
 -- after the head stands what is held and is not the head
-pub behind-head : (item : ℕ) (hs : List ℕ) → all_distinct hs ≡ true → among item (drop 1 hs) ≡ (among item hs && not (is_some (where_is item (first_of hs))))
-behind-head item [] d = refl
-behind-head item (h ∷ hs) d = grind (arith, nat_tests, d)
+pub following-head : (item : ℕ) (hs : List ℕ) → all_distinct hs ≡ true → among item (drop 1 hs) ≡ (among item hs && not (is_some (where_is item (first_of hs))))
+following-head item [] d = refl
+following-head item (h ∷ hs) d = grind (arith, nat_tests, d)
 
 nothing-added : (x : ℕ) → x ≡ 0 + x
 nothing-added x = omega arith
@@ -160,13 +161,13 @@ done-stopped w items o b h = still b.stop _ h
 
 -- an answer to the open steal
 
-back-of : (o : Option UnansweredSteal) (shared : Bool) (w : ℕ) (is : List ℕ) (items : List ℕ → List ℕ) (behind : List ℕ) → StealFits shared o
-    → (elim o as (λ _. Bool) [ None ↦ false | Some a ↦ (a.worker == w) && (elim is as (λ _. Bool) [ [] ↦ true | i ∷ rest ↦ bytes_eq (i ∷ rest) a.tests && all_among (items (i ∷ rest)) behind ]) ]) ≡ true
-    → items [] ≡ [] → (all_distinct is ≡ true) × (all_among (items is) behind ≡ true)
-back-of None shared w is items behind f h e = absurd (differ h)
-back-of (Some a) shared w [] items behind f h e = (refl, ap (λ xs. all_among xs behind) e)
-back-of (Some a) shared w (i ∷ is) items behind f h e =
-    let b = split-and (bytes_eq (i ∷ is) a.tests) (all_among (items (i ∷ is)) behind) (split-and (a.worker == w) (bytes_eq (i ∷ is) a.tests && all_among (items (i ∷ is)) behind) h).1 in
+back-of : (o : Option UnansweredSteal) (shared : Bool) (w : ℕ) (is : List ℕ) (items : List ℕ → List ℕ) (following : List ℕ) → StealFits shared o
+    → (elim o as (λ _. Bool) [ None ↦ false | Some a ↦ (a.worker == w) && (elim is as (λ _. Bool) [ [] ↦ true | i ∷ rest ↦ bytes_eq (i ∷ rest) a.tests && all_among (items (i ∷ rest)) following ]) ]) ≡ true
+    → items [] ≡ [] → (all_distinct is ≡ true) × (all_among (items is) following ≡ true)
+back-of None shared w is items following f h e = absurd (differ h)
+back-of (Some a) shared w [] items following f h e = (refl, ap (λ xs. all_among xs following) e)
+back-of (Some a) shared w (i ∷ is) items following f h e =
+    let b = split-and (bytes_eq (i ∷ is) a.tests) (all_among (items (i ∷ is)) following) (split-and (a.worker == w) (bytes_eq (i ∷ is) a.tests && all_among (items (i ∷ is)) following) h).1 in
     let same : i ∷ is ≡ a.tests = (bytes_eq-Decides (i ∷ is) a.tests).0 b.0 in
     (ap all_distinct same ∙ f.0, b.1)
 
@@ -191,8 +192,8 @@ gives-state s w is r few h =
     let named : List ℕ → List ℕ = λ xs. items_named (slot_of w s.books) xs s.plan in
     let given = (split-and (is_active w s.books) (may_give_back w is s) h).1 in
     let a = back-of s.plan.steal s.books.shared w is named (drop 1 hs) (tidy-reached s r).placed.steals given (items-are (slot_of w s.books) [] s.plan) in
-    let behind : all_among items (drop 1 hs) ≡ true = ap (λ (xs : List ℕ). all_among xs (drop 1 hs)) (sym (items-are (slot_of w s.books) is s.plan)) ∙ a.1 in
-    record { fits = fits-by first is hs (λ x i. held-small s w x r few i) behind; distinct = distinct-plus first is a.0; holds = all_among-drop 1 items hs behind }
+    let following : all_among items (drop 1 hs) ≡ true = ap (λ (xs : List ℕ). all_among xs (drop 1 hs)) (sym (items-are (slot_of w s.books) is s.plan)) ∙ a.1 in
+    record { fits = fits-by first is hs (λ x i. held-small s w x r few i) following; distinct = distinct-plus first is a.0; holds = all_among-drop 1 items hs following }
 
 pub gives-back : (s : State) (w : ℕ) (is : List ℕ) (b : Books) (k : Known) (stands : Plan → Type 0) → Comes (Back w is) s b k stands → sum k.sizes ≤ most_items → GivesBack w is b k
 gives-back s w is b k stands a few =
@@ -233,23 +234,23 @@ past-max None x h k = elim (cases_of (nat_lt x (2 ^ 32))) [
 ]
 past-max (Some n) x h k = absurd (k n refl)
 
-pub none_past : (o : Option ℕ) (x : ℕ) (hs : List ℕ) → SomeIff o (x < 2 ^ 32) x → ((n : ℕ) → o ≡ Some n → ⊥) → false ≡ is_behind x hs
+pub none_past : (o : Option ℕ) (x : ℕ) (hs : List ℕ) → SomeIff o (x < 2 ^ 32) x → ((n : ℕ) → o ≡ Some n → ⊥) → false ≡ is_after x hs
 none_past o x hs h k = ap (λ b. b && among x hs && is_none (where_is x (first_of hs))) (sym (past-max o x h k))
 
 -- whoever is not in the rota holds nothing
-pub unseated : (w x : ℕ) (t : Table) → in_rota w t ≡ false → false ≡ is_behind x (held w t)
-unseated w x t h = sym (ap (is_behind x) (no_seat-held w t.rota h) ∙ nothing-behind (nat_lt x (2 ^ 32)))
+pub unseated : (w x : ℕ) (t : Table) → in_rota w t ≡ false → false ≡ is_after x (held w t)
+unseated w x t h = sym (ap (is_after x) (no_seat-held w t.rota h) ∙ nothing-following (nat_lt x (2 ^ 32)))
   where
-    nothing-behind : (b : Bool) → (b && false && true) ≡ false
-    nothing-behind true = refl
-    nothing-behind false = refl
+    nothing-following : (b : Bool) → (b && false && true) ≡ false
+    nothing-following true = refl
+    nothing-following false = refl
 
 -- after the head of a worker of a run
 
-behind-small : (x : ℕ) (hs : List ℕ) → all_distinct hs ≡ true → ((y : ℕ) → among y hs ≡ true → y < 2 ^ 32) → is_behind x hs ≡ among x (drop 1 hs)
-behind-small x hs d k = elim (cases_of (among x hs)) [
-  | inl a ↦ (let low : nat_lt x (2 ^ 32) ≡ true = (let l = k x a in grind (arith, nat_tests, l)) in rw low (not-some (among x hs) (where_is x (first_of hs)) ∙ sym (behind-head x hs d)))
-  | inr a ↦ rw a (in-none (nat_lt x (2 ^ 32)) ∙ sym (behind-head x hs d ∙ ap (λ b. b && not (is_some (where_is x (first_of hs)))) a))
+following-small : (x : ℕ) (hs : List ℕ) → all_distinct hs ≡ true → ((y : ℕ) → among y hs ≡ true → y < 2 ^ 32) → is_after x hs ≡ among x (drop 1 hs)
+following-small x hs d k = elim (cases_of (among x hs)) [
+  | inl a ↦ (let low : nat_lt x (2 ^ 32) ≡ true = (let l = k x a in grind (arith, nat_tests, l)) in rw low (not-some (among x hs) (where_is x (first_of hs)) ∙ sym (following-head x hs d)))
+  | inr a ↦ rw a (in-none (nat_lt x (2 ^ 32)) ∙ sym (following-head x hs d ∙ ap (λ b. b && not (is_some (where_is x (first_of hs)))) a))
 ]
   where
     not-some : (b : Bool) (o : Option ℕ) → (b && is_none o) ≡ (b && not (is_some o))
@@ -260,20 +261,20 @@ behind-small x hs d k = elim (cases_of (among x hs)) [
     in-none true = refl
     in-none false = refl
 
-all-behind : (first : ℕ) (is hs : List ℕ) → all_distinct hs ≡ true → ((y : ℕ) → among y hs ≡ true → y < 2 ^ 32) → list_all (λ i. is_behind (first + i) hs) is ≡ list_all (λ i. among (first + i) (drop 1 hs)) is
-all-behind first [] hs d k = refl
-all-behind first (i ∷ is) hs d k = ap (λ b. b && list_all (λ j. is_behind (first + j) hs) is) (behind-small (first + i) hs d k) ∙ ap (λ b. among (first + i) (drop 1 hs) && b) (all-behind first is hs d k)
+all-following : (first : ℕ) (is hs : List ℕ) → all_distinct hs ≡ true → ((y : ℕ) → among y hs ≡ true → y < 2 ^ 32) → list_all (λ i. is_after (first + i) hs) is ≡ list_all (λ i. among (first + i) (drop 1 hs)) is
+all-following first [] hs d k = refl
+all-following first (i ∷ is) hs d k = ap (λ b. b && list_all (λ j. is_after (first + j) hs) is) (following-small (first + i) hs d k) ∙ ap (λ b. among (first + i) (drop 1 hs) && b) (all-following first is hs d k)
 
 -- the worker's numbers name tests after its head where the ledger says so of each
-pub named_behind : (w : ℕ) (is : List ℕ) (s : State) (b : Books) (k : Known) → Reached s → b ≡ s.books → k ≡ known_of s.plan → sum k.sizes ≤ most_items
-    → list_all (λ i. is_behind (first_item (slot_of w b) k + i) (held w b.table)) is ≡ all_among (items_named (slot_of w s.books) is s.plan) (drop 1 (held w s.books.table))
-named_behind w is s b k r e d few =
+pub named_after : (w : ℕ) (is : List ℕ) (s : State) (b : Books) (k : Known) → Reached s → b ≡ s.books → k ≡ known_of s.plan → sum k.sizes ≤ most_items
+    → list_all (λ i. is_after (first_item (slot_of w b) k + i) (held w b.table)) is ≡ all_among (items_named (slot_of w s.books) is s.plan) (drop 1 (held w s.books.table))
+named_after w is s b k r e d few =
     let low : sum s.plan.sizes ≤ most_items = subst (λ (q : Known). sum q.sizes ≤ most_items) d few in
     let hs = held w s.books.table in
     let first = first_item (slot_of w s.books) (known_of s.plan) in
-    ap (λ (x : Books). list_all (λ i. is_behind (first_item (slot_of w x) k + i) (held w x.table)) is) e
-    ∙ ap (λ (q : Known). list_all (λ i. is_behind (first_item (slot_of w s.books) q + i) hs) is) d
-    ∙ all-behind first is hs (held-distinct s w r) (λ x h. held-small s w x r low h)
+    ap (λ (x : Books). list_all (λ i. is_after (first_item (slot_of w x) k + i) (held w x.table)) is) e
+    ∙ ap (λ (q : Known). list_all (λ i. is_after (first_item (slot_of w s.books) q + i) hs) is) d
+    ∙ all-following first is hs (held-distinct s w r) (λ x h. held-small s w x r low h)
     ∙ sym (among-named (slot_of w s.books) is s.plan (drop 1 hs))
 
 -- whoever was not ready, or has collected, may give no collection
@@ -300,13 +301,13 @@ pub no-head : (o : Option ℕ) → is_some o ≡ true → ((n : ℕ) → o ≡ S
 no-head None h k = differ h
 no-head (Some n) h k = k n refl
 
-judged-back : (o : Option UnansweredSteal) (w v : ℕ) (is tests : List ℕ) (items : List ℕ → List ℕ) (behind : List ℕ) (b : Bool) → o ≡ Some (record { worker = v; tests = tests }) → (v == w) ≡ true → (length is == 0) ≡ false → bytes_eq is tests ≡ true → b ≡ all_among (items is) behind
-    → b ≡ (elim o as (λ _. Bool) [ None ↦ false | Some a ↦ (a.worker == w) && (elim is as (λ _. Bool) [ [] ↦ true | i ∷ rest ↦ bytes_eq (i ∷ rest) a.tests && all_among (items (i ∷ rest)) behind ]) ])
-judged-back None w v is tests items behind b e h n t k = cc
-judged-back (Some a) w v [] tests items behind b e h n t k = absurd (differ (sym n))
-judged-back (Some a) w v (i ∷ is) tests items behind b e h n t k =
+judged-back : (o : Option UnansweredSteal) (w v : ℕ) (is tests : List ℕ) (items : List ℕ → List ℕ) (following : List ℕ) (b : Bool) → o ≡ Some (record { worker = v; tests = tests }) → (v == w) ≡ true → (length is == 0) ≡ false → bytes_eq is tests ≡ true → b ≡ all_among (items is) following
+    → b ≡ (elim o as (λ _. Bool) [ None ↦ false | Some a ↦ (a.worker == w) && (elim is as (λ _. Bool) [ [] ↦ true | i ∷ rest ↦ bytes_eq (i ∷ rest) a.tests && all_among (items (i ∷ rest)) following ]) ])
+judged-back None w v is tests items following b e h n t k = cc
+judged-back (Some a) w v [] tests items following b e h n t k = absurd (differ (sym n))
+judged-back (Some a) w v (i ∷ is) tests items following b e h n t k =
     let same : a ≡ record { worker = v; tests = tests } = some-same a (record { worker = v; tests = tests }) e in
-    k ∙ sym (both (v == w) (bytes_eq (i ∷ is) tests) (all_among (items (i ∷ is)) behind) h t) ∙ sym (ap (λ (x : UnansweredSteal). (x.worker == w) && (bytes_eq (i ∷ is) x.tests && all_among (items (i ∷ is)) behind)) same)
+    k ∙ sym (both (v == w) (bytes_eq (i ∷ is) tests) (all_among (items (i ∷ is)) following) h t) ∙ sym (ap (λ (x : UnansweredSteal). (x.worker == w) && (bytes_eq (i ∷ is) x.tests && all_among (items (i ∷ is)) following)) same)
   where
     some-same : (x y : UnansweredSteal) → Some x ≡ Some y → x ≡ y
     some-same x y p = cc
@@ -317,6 +318,6 @@ judged-back (Some a) w v (i ∷ is) tests items behind b e h n t k =
     both false q r x y = absurd (differ x)
 
 pub may-answer : (s : State) (w v : ℕ) (is tests : List ℕ) (b : Books) (k : Known) (found : Bool) → Reached s → b ≡ s.books → k ≡ known_of s.plan → sum k.sizes ≤ most_items → k.steal ≡ Some (record { worker = v; tests = tests }) → (v == w) ≡ true
-    → (length is == 0) ≡ false → bytes_eq is tests ≡ true → found ≡ list_all (λ i. is_behind (first_item (slot_of w b) k + i) (held w b.table)) is → found ≡ may_give_back w is s
+    → (length is == 0) ≡ false → bytes_eq is tests ≡ true → found ≡ list_all (λ i. is_after (first_item (slot_of w b) k + i) (held w b.table)) is → found ≡ may_give_back w is s
 may-answer s w v is tests b k found r e d few o h n t f =
-    judged-back s.plan.steal w v is tests (λ xs. items_named (slot_of w s.books) xs s.plan) (drop 1 (held w s.books.table)) found (sym (ap (λ (q : Known). q.steal) d) ∙ o) h n t (f ∙ named_behind w is s b k r e d few)
+    judged-back s.plan.steal w v is tests (λ xs. items_named (slot_of w s.books) xs s.plan) (drop 1 (held w s.books.table)) found (sym (ap (λ (q : Known). q.steal) d) ∙ o) h n t (f ∙ named_after w is s b k r e d few)

@@ -34,14 +34,14 @@ module _ (settings : Settings) (entries : List Entry) (logs : List WorkerLog) (s
 
   legal-by : (last : List Entry) → j.entries.items ≡ entries ++ last → EndsWith (state_at settings entries).books last → IsLegal j
   legal-by last is e =
-      let behind = ap (state_at settings) k.journal ∙ journal-state settings k.inputs k.proper.follow in
+      let following = ap (state_at settings) k.journal ∙ journal-state settings k.inputs k.proper.follow in
       inr (record {
         mode = subst (λ (x : Settings). Rattle.xd_ledger.specs.Proper.has_workers x.mode ≡ true) (sym same) k.proper.mode;
         inputs = k.inputs;
         are_inputs = inputs-are;
         last = last;
         entries = is ∙ ap (λ (es : List Entry). es ++ last) k.journal ∙ ap (λ (x : Settings). journal_of x k.inputs ++ last) (sym same);
-        ends = subst (λ (x : Settings). EndsWith (Rattle.xd_ledger.specs.Histories.after_inputs (after_starts x) k.inputs).books last) (sym same) (subst (λ (x : State). EndsWith x.books last) behind e);
+        ends = subst (λ (x : Settings). EndsWith (Rattle.xd_ledger.specs.Histories.after_inputs (after_starts x) k.inputs).books last) (sym same) (subst (λ (x : State). EndsWith x.books last) following e);
       })
 
   pub legal-so-far : j.entries.items ≡ entries → IsLegal j

@@ -23,8 +23,8 @@ use Rattle.xd_ledger.specs.State.{after_effect}
 use Rattle.xd_ledger.specs.Workers.{has_member, is_active}
 use Rattle.xd_laws.proofs.Logic.{and, cases_of, differ, in_both, or-right, split-and}
 use Rattle.xd_session.specs.History.{IsProperRun, Run as SoFar, entries_with, input_of, run_of, said_by}
-use Rattle.xd_session.specs.Part.{EndsWorker, HasPart, MeansEach, as_list, inputs_by, is_end_of, is_ended, is_of_log, is_said_by, meant_behind, meant_by}
-use Rattle.xd_session.proofs.Activity.{Active, active-behind}
+use Rattle.xd_session.specs.Part.{EndsWorker, HasPart, MeansEach, as_list, inputs_by, is_end_of, is_ended, is_of_log, is_said_by, meant_after, meant_by}
+use Rattle.xd_session.proofs.Activity.{Active, active-following}
 use Rattle.xd_session.proofs.Shares.{given-is}
 use Rattle.xd_session.proofs.Steps.{none-some, outputs-orderly, run-more, same-entry, sound-run}
 
@@ -241,12 +241,12 @@ own-by w (Some e) b k = ap (λ (q : Bool). if q then e ∷ [] else []) (k e refl
 abbrev one : Settings → ℕ → List News → News → List Entry
 one settings w before n = if n.worker == w then as_list (input_of (run_of settings before) n) else []
 
-meant-more : (settings : Settings) (w : ℕ) (before xs : List News) (n : News) → meant_behind settings w before (xs ++ n ∷ []) ≡ meant_behind settings w before xs ++ one settings w (before ++ xs) n
+meant-more : (settings : Settings) (w : ℕ) (before xs : List News) (n : News) → meant_after settings w before (xs ++ n ∷ []) ≡ meant_after settings w before xs ++ one settings w (before ++ xs) n
 meant-more settings w before [] n = append-nil (one settings w before n) ∙ ap (λ (b : List News). one settings w b n) (sym (append-nil before))
 meant-more settings w before (x ∷ xs) n =
     let here = one settings w before x in
-    ap (λ (es : List Entry). here ++ es) (meant-more settings w (before ++ x ∷ []) xs n) ∙ sym (append_assoc here (meant_behind settings w (before ++ x ∷ []) xs) (one settings w ((before ++ x ∷ []) ++ xs) n))
-    ∙ ap (λ (b : List News). (here ++ meant_behind settings w (before ++ x ∷ []) xs) ++ one settings w b n) (append_assoc before (x ∷ []) xs)
+    ap (λ (es : List Entry). here ++ es) (meant-more settings w (before ++ x ∷ []) xs n) ∙ sym (append_assoc here (meant_after settings w (before ++ x ∷ []) xs) (one settings w ((before ++ x ∷ []) ++ xs) n))
+    ∙ ap (λ (b : List News). (here ++ meant_after settings w (before ++ x ∷ []) xs) ++ one settings w b n) (append_assoc before (x ∷ []) xs)
 
 -- a split of a list that ends with this piece of news
 last-split : (xs : List News) (n : News) (before after : List News) (m : News) → xs ++ n ∷ [] ≡ before ++ m ∷ after → ((before ≡ xs) × (m ≡ n)) ⊎ ((rest : List News) × (xs ≡ before ++ m ∷ rest))
@@ -276,8 +276,8 @@ or-one true h = refl
 or-one false h = h
 
 -- nothing of a list is left after an end
-abbrev NoneBehind : ℕ → List Entry → Type 0
-NoneBehind w xs = (before after : List Entry) (e : Entry) → xs ≡ before ++ e ∷ after → is_end_of w e ≡ true → after ≡ []
+abbrev NoneLater : ℕ → List Entry → Type 0
+NoneLater w xs = (before after : List Entry) (e : Entry) → xs ≡ before ++ e ∷ after → is_end_of w e ≡ true → after ≡ []
 
 unended-inputs : (w : ℕ) (es : List Entry) → is_ended w es ≡ false → is_ended w (inputs_by w es) ≡ false
 unended-inputs w [] h = refl
@@ -290,23 +290,23 @@ ended-there : (w : ℕ) (before after : List Entry) (e : Entry) → is_end_of w 
 ended-there w [] after e h = ap (λ (b : Bool). b || is_ended w after) h
 ended-there w (x ∷ before) after e h = or-right (is_end_of w x) (is_ended w (before ++ e ∷ after)) (ended-there w before after e h)
 
-unended-behind : (w : ℕ) (xs : List Entry) → is_ended w xs ≡ false → NoneBehind w xs
-unended-behind w xs h before after e is ends = absurd (differ (sym h ∙ ap (is_ended w) is ∙ ended-there w before after e ends))
+unended-following : (w : ℕ) (xs : List Entry) → is_ended w xs ≡ false → NoneLater w xs
+unended-following w xs h before after e is ends = absurd (differ (sym h ∙ ap (is_ended w) is ∙ ended-there w before after e ends))
 
 nothing-there : (before after : List Entry) (e : Entry) (P : Type 0) → [] ≡ before ++ e ∷ after → P
 nothing-there [] after e P h = absurd cc
 nothing-there (b ∷ before) after e P h = absurd cc
 
-last-behind : (w : ℕ) (xs : List Entry) (x : Entry) → is_ended w xs ≡ false → NoneBehind w (xs ++ x ∷ [])
-last-behind w [] x h [] after e is ends = (let rest : [] ≡ after = cc in sym rest)
-last-behind w [] x h (b ∷ before) after e is ends = (let rest : [] ≡ before ++ e ∷ after = cc in nothing-there before after e (after ≡ []) rest)
-last-behind w (y ∷ xs) x h [] after e is ends =
+last-following : (w : ℕ) (xs : List Entry) (x : Entry) → is_ended w xs ≡ false → NoneLater w (xs ++ x ∷ [])
+last-following w [] x h [] after e is ends = (let rest : [] ≡ after = cc in sym rest)
+last-following w [] x h (b ∷ before) after e is ends = (let rest : [] ≡ before ++ e ∷ after = cc in nothing-there before after e (after ≡ []) rest)
+last-following w (y ∷ xs) x h [] after e is ends =
     let same : y ≡ e = cc in
     let p = neither (is_end_of w y) (is_ended w xs) h in
     absurd (differ (sym p.0 ∙ ap (is_end_of w) same ∙ ends))
-last-behind w (y ∷ xs) x h (b ∷ before) after e is ends =
+last-following w (y ∷ xs) x h (b ∷ before) after e is ends =
     let rest : xs ++ x ∷ [] ≡ before ++ e ∷ after = cc in
-    last-behind w xs x (neither (is_end_of w y) (is_ended w xs) h).1 before after e rest ends
+    last-following w xs x (neither (is_end_of w y) (is_ended w xs) h).1 before after e rest ends
 
 -- along the news: the worker was not ended yet, or it was
 
@@ -321,7 +321,7 @@ record Closed (settings : Settings) (w : ℕ) (taken : List News) : Type 0 where
   are : taken ≡ heard ++ unheard
   inputs : inputs_by w (run_of settings taken).entries ≡ meant_by settings w heard
   each : MeansEach settings w heard
-  none_behind : NoneBehind w (inputs_by w (run_of settings taken).entries)
+  none_later : NoneLater w (inputs_by w (run_of settings taken).entries)
   ended : is_ended w (run_of settings taken).entries ≡ true
   ends : EndsWorker settings w heard
 
@@ -352,7 +352,7 @@ module _ (settings : Settings) (p : IsProper settings []) (w : ℕ) (taken : Lis
 
   activity : Active w r.state.books.members r.entries
   activity =
-      let a = active-behind settings r.inputs w sound.proper in
+      let a = active-following settings r.inputs w sound.proper in
       subst (λ (es : List Entry). Active w r.state.books.members es) (sym sound.journal) (subst (λ (s : State). Active w s.books.members (journal_of settings r.inputs)) (sym sound.state) a)
 
   active-open : is_ended w r.entries ≡ false → has_member w (λ m. true) r.state.books ≡ true → is_active w r.state.books ≡ true
@@ -398,11 +398,11 @@ module _ (settings : Settings) (p : IsProper settings []) (w : ℕ) (taken : Lis
         gone = λ c u d b. input-gone r n x e w c u d b;
       }
 
-  behind-by : (q : Option Entry) → is_ended w r.entries ≡ false → is_ended w (as_list q) ≡ true → NoneBehind w (inputs_by w r.entries ++ inputs_by w (as_list q))
-  behind-by None k h = absurd (differ h)
-  behind-by (Some x) k h =
+  following-by : (q : Option Entry) → is_ended w r.entries ≡ false → is_ended w (as_list q) ≡ true → NoneLater w (inputs_by w r.entries ++ inputs_by w (as_list q))
+  following-by None k h = absurd (differ h)
+  following-by (Some x) k h =
       let own_one : is_said_by w x ≡ true = end-own w x (or-one (is_end_of w x) h) in
-      subst (λ (xs : List Entry). NoneBehind w (inputs_by w r.entries ++ xs)) (sym (ap (λ (b : Bool). if b then x ∷ [] else []) own_one)) (last-behind w (inputs_by w r.entries) x (unended-inputs w r.entries k))
+      subst (λ (xs : List Entry). NoneLater w (inputs_by w r.entries ++ xs)) (sym (ap (λ (b : Bool). if b then x ∷ [] else []) own_one)) (last-following w (inputs_by w r.entries) x (unended-inputs w r.entries k))
 
   step-open : Open settings w taken → Open settings w (taken ++ n ∷ []) ⊎ Closed settings w (taken ++ n ∷ [])
   step-open k = elim (cases_of (is_ended w (as_list o))) [
@@ -412,7 +412,7 @@ module _ (settings : Settings) (p : IsProper settings []) (w : ℕ) (taken : Lis
       are = sym (append-nil (taken ++ n ∷ []));
       inputs = inputs-open k.inputs;
       each = each-open k.ended k.each;
-      none_behind = subst (NoneBehind w) (sym inputs-next) (behind-by o k.ended h);
+      none_later = subst (NoneLater w) (sym inputs-next) (following-by o k.ended h);
       ended = ended-next ∙ ap (λ (b : Bool). b || is_ended w (as_list o)) k.ended ∙ h;
       ends = ends-by o refl k.ended h;
     })
@@ -445,7 +445,7 @@ module _ (settings : Settings) (p : IsProper settings []) (w : ℕ) (taken : Lis
     are = ap (λ (ns : List News). ns ++ n ∷ []) k.are ∙ append_assoc k.heard k.unheard (n ∷ []);
     inputs = inputs-still k.ended ∙ k.inputs;
     each = k.each;
-    none_behind = subst (NoneBehind w) (sym (inputs-still k.ended)) k.none_behind;
+    none_later = subst (NoneLater w) (sym (inputs-still k.ended)) k.none_later;
     ended = ended-next ∙ ap (λ (b : Bool). b || is_ended w (as_list o)) k.ended;
     ends = k.ends;
   }
@@ -467,6 +467,6 @@ open-none settings w =
 
 pub part-of : (settings : Settings) (taken : List News) (worker : ℕ) → IsProper settings [] → HasPart settings worker taken
 part-of settings taken w p = elim (along settings p w [] taken (inl (open-none settings w))) [
-  | inl k ↦ record { heard = taken; unheard = []; are = sym (append-nil taken); inputs = k.inputs; each = k.each; none_behind = unended-behind w (inputs_by w (run_of settings taken).entries) (unended-inputs w (run_of settings taken).entries k.ended); up_to = inl (k.ended, refl) }
-  | inr k ↦ record { heard = k.heard; unheard = k.unheard; are = k.are; inputs = k.inputs; each = k.each; none_behind = k.none_behind; up_to = inr k.ends }
+  | inl k ↦ record { heard = taken; unheard = []; are = sym (append-nil taken); inputs = k.inputs; each = k.each; none_later = unended-following w (inputs_by w (run_of settings taken).entries) (unended-inputs w (run_of settings taken).entries k.ended); up_to = inl (k.ended, refl) }
+  | inr k ↦ record { heard = k.heard; unheard = k.unheard; are = k.are; inputs = k.inputs; each = k.each; none_later = k.none_later; up_to = inr k.ends }
 ]

@@ -33,8 +33,8 @@ drop-front : (xs ys : List ℕ) → drop (length xs) (xs ++ ys) ≡ ys
 drop-front [] ys = refl
 drop-front (x ∷ xs) ys = drop-front xs ys
 
-last-behind : (xs ys : List ℕ) → last_of (length ys) (xs ++ ys) ≡ ys
-last-behind xs ys =
+last-following : (xs ys : List ℕ) → last_of (length ys) (xs ++ ys) ≡ ys
+last-following xs ys =
     let e : length (xs ++ ys) - length ys ≡ length xs = (let l = length-append xs ys in omega (arith, l)) in
     ap (λ n. drop n (xs ++ ys)) e ∙ drop-front xs ys
 
@@ -47,7 +47,7 @@ plan-by-pool w retry rest b p r n =
     let pool = front ++ (b.table.pool ++ drop 1 hs) in
     let first : retried_item retry pool ≡ front = first-retried retry hs (b.table.pool ++ drop 1 hs) (λ e. r ∙ no-retry w b e) in
     let last : last_of rest pool ≡ drop 1 hs =
-    ap (λ k. last_of k pool) n ∙ ap (λ (xs : List ℕ). last_of (length (drop 1 hs)) xs) (sym (append_assoc front b.table.pool (drop 1 hs))) ∙ last-behind (front ++ b.table.pool) (drop 1 hs) in
+    ap (λ k. last_of k pool) n ∙ ap (λ (xs : List ℕ). last_of (length (drop 1 hs)) xs) (sym (append_assoc front b.table.pool (drop 1 hs))) ∙ last-following (front ++ b.table.pool) (drop 1 hs) in
     ap (λ xs. down_plan w xs (last_of rest pool) p) first ∙ ap (λ xs. down_plan w front xs p) last
 
 -- before the share nobody holds anything, and a death leaves the plan

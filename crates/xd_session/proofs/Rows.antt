@@ -50,9 +50,9 @@ a_retry = refl
 abbrev collects_late : List Entry
 collects_late = Start 0 0 ∷ Ready 0 ∷ Down 0 Ended [] ∷ Kill 0 ∷ Start 1 0 ∷ Collected 0 (ids.List ((97 ∷ []) ∷ [])) ∷ []
 
-not_behind_the_end : (taken : List News) → (run_of alone taken).entries ≡ collects_late → ⊥
-not_behind_the_end taken h =
+not_after_the_end : (taken : List News) → (run_of alone taken).entries ≡ collects_late → ⊥
+not_after_the_end taken h =
     let late : List Entry = Collected 0 (ids.List ((97 ∷ []) ∷ [])) ∷ [] in
     let part = part-of alone taken 0 alone-proper in
-    let none : late ≡ [] = part.none_behind (Ready 0 ∷ []) late (Down 0 Ended []) (ap (inputs_by 0) h) refl in
+    let none : late ≡ [] = part.none_later (Ready 0 ∷ []) late (Down 0 Ended []) (ap (inputs_by 0) h) refl in
     absurd cc

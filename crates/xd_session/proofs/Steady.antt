@@ -33,30 +33,30 @@ use Rattle.xd_session.specs.Known.{Known}
 use Rattle.xd_session.specs.Rules.{At, InStep}
 use Rattle.xd_session.specs.Stands.{SessionSeen, StandsFor}
 use Rattle.xd_session.specs.Told.{Steady, Told, TookNews}
-use Rattle.xd_session.proofs.Joins.{AllCollected, joins-behind}
+use Rattle.xd_session.proofs.Joins.{AllCollected, joins-following}
 use Rattle.xd_session.proofs.Steps.{journal-more, logs-more, meaning-follows, meaning-short, orderly-next, proper-more, run-more, run-taken, short-twice, sound-run, spent-more, state-next}
-use Rattle.xd_session.proofs.Waiting.{AllTold, shut-where, told-behind}
+use Rattle.xd_session.proofs.Waiting.{AllTold, shut-where, told-following}
 
 -- a session in step stands for a state of a proper run
 module _ (settings : Settings) (entries : List Entry) (logs : List WorkerLog) (spent : ℕ) (b : Books) (kn : Known) (st : Plan → Type 0) (k : InStep settings entries logs spent b kn st) where
-  pub behind : state_at settings entries ≡ after_inputs (after_starts settings) k.inputs
-  behind = ap (state_at settings) k.journal ∙ journal-state settings k.inputs k.proper.follow
+  pub following : state_at settings entries ≡ after_inputs (after_starts settings) k.inputs
+  following = ap (state_at settings) k.journal ∙ journal-state settings k.inputs k.proper.follow
 
   pub steady : Steady (state_at settings entries) b kn st
-  steady = record { at = k.at; reached = record { settings = settings; inputs = k.inputs; proper = k.proper; state = behind } }
+  steady = record { at = k.at; reached = record { settings = settings; inputs = k.inputs; proper = k.proper; state = following } }
 
   tidy : Tidy (state_at settings entries)
   tidy = tidy-reached (state_at settings entries) steady.reached
 
   collected : AllCollected (state_at settings entries)
-  collected = subst (λ (u : State). AllCollected u) (sym behind) (joins-behind settings k.inputs k.proper)
+  collected = subst (λ (u : State). AllCollected u) (sym following) (joins-following settings k.inputs k.proper)
 
   all-told : AllTold (state_at settings entries)
-  all-told = subst (λ (u : State). AllTold u) (sym behind) (told-behind settings k.inputs k.proper)
+  all-told = subst (λ (u : State). AllTold u) (sym following) (told-following settings k.inputs k.proper)
 
   -- where it is not over some worker owes the next step
-  pub owed-behind : is_over (state_at settings entries).books ≡ false → someone_owes (state_at settings entries) ≡ true
-  owed-behind = subst (λ (u : State). is_over u.books ≡ false → someone_owes u ≡ true) (sym behind) (owed settings k.inputs k.proper)
+  pub owed-following : is_over (state_at settings entries).books ≡ false → someone_owes (state_at settings entries) ≡ true
+  owed-following = subst (λ (u : State). is_over u.books ≡ false → someone_owes u ≡ true) (sym following) (owed settings k.inputs k.proper)
 
 new-seat : (s : State) (w : ℕ) → AllCollected s → has_collected w s.books ≡ false → has_joined w s.books.table ≡ false
 new-seat s w d h = elim (cases_of (has_joined w s.books.table)) [
@@ -98,7 +98,7 @@ next-by settings entries now logs logs_now spent spent_now b c kn kc st st_now N
 next-by settings entries now logs logs_now spent spent_now b c kn kc st st_now (Some e) k h short t =
     let s0 = state_at settings entries in
     let m : may_follow s0 e ≡ true = h e refl in
-    let after = behind settings entries logs spent b kn st k in
+    let after = following settings entries logs spent b kn st k in
     record {
       inputs = k.inputs ++ e ∷ [];
       proper = proper-more settings k.inputs e k.proper (ap (λ u. may_follow u e) (sym after) ∙ m);

@@ -13,7 +13,7 @@ use Rattle.xd_journal.specs.declared.entry.Outcome.TheVariants.{Failed, Passed, 
 use Rattle.xd_journal.specs.declared.news.News.{News}
 use Rattle.xd_journal.specs.declared.news.What.{What}
 use Rattle.xd_journal.specs.declared.news.What.TheVariants as what
-use Rattle.xd_journal.specs.Kept.{room_behind, most_of_all, most_of_one}
+use Rattle.xd_journal.specs.Kept.{output_room, most_of_all, most_of_one}
 use Rattle.xd_ledger.specs.Histories.{after_starts, first_starts, grown, journal_of, after_inputs}
 use Rattle.xd_ledger.specs.Meaning.{Log, given_ids, head_bytes, is_of, any_open, kept_at_death, log_of, may_start_log, meaning_of, output_of, is_open_log, spent_by, with_news}
 use Rattle.xd_ledger.specs.Orderly.{all_orderly, is_orderly, is_orderly_run}
@@ -169,7 +169,7 @@ take-within : (m n : ℕ) (b : Bool) (bs : List ℕ) → m ≤ n → take m (if 
 take-within m n true bs h = take-shorter m n bs h
 take-within m n false bs h = refl
 
-head-short : (w spent : ℕ) (log : Option Log) (s : State) → take (room_behind spent) (head_bytes w (shortened log) s) ≡ take (room_behind spent) (head_bytes w log s)
+head-short : (w spent : ℕ) (log : Option Log) (s : State) → take (output_room spent) (head_bytes w (shortened log) s) ≡ take (output_room spent) (head_bytes w log s)
 head-short w spent None s = refl
 head-short w spent (Some l) s = take-within (min most_of_one (most_of_all - spent)) most_of_one (names_head w l.index s) l.bytes (omega arith)
 

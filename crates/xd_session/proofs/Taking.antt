@@ -14,7 +14,8 @@ use Rattle.xd_ledger.specs.Books.{Books}
 use Rattle.xd_ledger.specs.Meaning.{Log, any_open, breach, given_ids, is_of, is_open_log, may_start_log, meaning_of, output_of, spent_by, with_news}
 use Rattle.xd_ledger.specs.Plan.{Plan}
 use Rattle.xd_edge.specs.Limits.{most_tests}
-use Rattle.xd_ledger.specs.Proper.{are_ids, is_id, may_follow, names_head, no_text_twice}
+use Rattle.xd_edge.specs.Ids.{is_id}
+use Rattle.xd_ledger.specs.Proper.{are_ids, may_follow, names_head, no_text_twice}
 use Rattle.xd_ledger.specs.Sharing.{State}
 use Rattle.xd_ledger.specs.Table.{held}
 use Rattle.xd_ledger.specs.Workers.{has_collected, is_active, is_shut, was_ready}

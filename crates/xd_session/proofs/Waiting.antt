@@ -227,8 +227,8 @@ starts-stop : (s : State) (w n : ℕ) → is_stopped (after_entries s (starts_fr
 starts-stop s w zero = refl
 starts-stop s w (suc n) = starts-stop (after_effect s (Start w w)) (w + 1) n
 
-pub told-behind : (settings : Settings) (ins : List Entry) → IsProper settings ins → AllTold (after_inputs (after_starts settings) ins)
-told-behind settings ins p = told-run (after_starts settings) ins p.follow (orderly settings ins p) (λ a. absurd (differ (sym (starts-stop (no_one settings) 0 settings.workers) ∙ a)))
+pub told-following : (settings : Settings) (ins : List Entry) → IsProper settings ins → AllTold (after_inputs (after_starts settings) ins)
+told-following settings ins p = told-run (after_starts settings) ins p.follow (orderly settings ins p) (λ a. absurd (differ (sym (starts-stop (no_one settings) 0 settings.workers) ∙ a)))
 
 -- one worker
 

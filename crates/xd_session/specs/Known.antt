@@ -39,8 +39,8 @@ where_is item (Some head) = if head == item then Some head else None
 
 -- the item is held after the head, by what a ledger tells of it: it is a number that the ledger has, it is held, and it
 -- is not the head
-abbrev pub is_behind : ℕ → List ℕ → Bool
-is_behind item held = nat_lt item (2 ^ 32) && among item held && is_none (where_is item (first_of held))
+abbrev pub is_after : ℕ → List ℕ → Bool
+is_after item held = nat_lt item (2 ^ 32) && among item held && is_none (where_is item (first_of held))
 
 -- the open steal after an output of a mode
 abbrev pub asked_by : Option UnansweredSteal → Entry → Option UnansweredSteal

@@ -41,15 +41,15 @@ as_list None = []
 as_list (Some e) = e ∷ []
 
 -- the inputs that the worker's news mean which come after those of `before`, each by all that came before it
-abbrev pub meant_behind : Settings → ℕ → List News → List News → List Entry
-meant_behind settings worker before [] = []
-meant_behind settings worker before (n ∷ ns) =
-    (if n.worker == worker then as_list (input_of (run_of settings before) n) else []) ++ meant_behind settings worker (before ++ n ∷ []) ns
+abbrev pub meant_after : Settings → ℕ → List News → List News → List Entry
+meant_after settings worker before [] = []
+meant_after settings worker before (n ∷ ns) =
+    (if n.worker == worker then as_list (input_of (run_of settings before) n) else []) ++ meant_after settings worker (before ++ n ∷ []) ns
 
 -- the inputs that the worker's news among these mean, in order
 -- Example: gw0 says that it is ready and starts a log, and its link is gone: Ready and Down.
 abbrev pub meant_by : Settings → ℕ → List News → List Entry
-meant_by settings worker taken = meant_behind settings worker [] taken
+meant_by settings worker taken = meant_after settings worker [] taken
 
 -- news of a test's output, of which a journal has no more than what is kept of it
 abbrev pub is_of_log : What → Bool
@@ -86,5 +86,5 @@ pub record HasPart (settings : Settings) (worker : ℕ) (taken : List News) : Ty
   pub are : taken ≡ heard ++ unheard
   pub inputs : inputs_by worker (run_of settings taken).entries ≡ meant_by settings worker heard
   pub each : MeansEach settings worker heard
-  pub none_behind : (before after : List Entry) (e : Entry) → inputs_by worker (run_of settings taken).entries ≡ before ++ e ∷ after → is_end_of worker e ≡ true → after ≡ []
+  pub none_later : (before after : List Entry) (e : Entry) → inputs_by worker (run_of settings taken).entries ≡ before ++ e ∷ after → is_end_of worker e ≡ true → after ≡ []
   pub up_to : ((is_ended worker (run_of settings taken).entries ≡ false) × (unheard ≡ [])) ⊎ EndsWorker settings worker heard

@@ -2,7 +2,8 @@
 ghost use Rattle.std.specs.Prelude.{◌≡◌, ◌&&◌, true, nat_le, length};
 ghost use Rattle.std.specs.List.{list_all};
 ghost use Rattle.xd_edge.specs.Limits.{most_tests};
-ghost use Rattle.xd_ledger.specs.Proper.{is_id, most_workers, no_text_twice};
+ghost use Rattle.xd_edge.specs.Ids.{is_id};
+ghost use Rattle.xd_ledger.specs.Proper.{most_workers, no_text_twice};
 
 use xd_ledger::{Books, Ledger};
 

@@ -1,12 +1,13 @@
 // A worker collected: it joins, and the last one that was missing brings the share.
-ghost use Rattle.std.specs.Prelude.{◌≡◌, ◌&&◌, ◌≤◌, nat_le, length, sum, true, false, None, [], ◌∷◌, ℕ, List, OnOk, IfOk, if◌then◌else◌};
+ghost use Rattle.std.specs.Prelude.{◌≡◌, ◌&&◌, ◌≤◌, nat_le, length, sum, true, false, None, [], ◌∷◌, ℕ, OnOk, IfOk, if◌then◌else◌};
 ghost use Rattle.std.specs.List.{list_all};
 ghost use Rattle.xd_ledger.specs.Calls.{Turned};
 ghost use Rattle.xd_ledger.specs.Meaning.{given_ids};
 ghost use Rattle.xd_ledger.specs.Modes.ModeCall.{Share};
 ghost use Rattle.xd_ledger.specs.Outputs.{acts_of, outputs_of_joining, slots_of_rota};
 ghost use Rattle.xd_edge.specs.Limits.{most_tests};
-ghost use Rattle.xd_ledger.specs.Proper.{is_id, no_text_twice};
+ghost use Rattle.xd_edge.specs.Ids.{is_id};
+ghost use Rattle.xd_ledger.specs.Proper.{no_text_twice};
 ghost use Rattle.xd_ledger.specs.Sharing.{State, ids_at, is_full, joining, shared_now, shared_plan, sizes_from};
 ghost use Rattle.xd_ledger.specs.Plan.{Plan, is_each};
 ghost use Rattle.xd_ledger.specs.Sound.{most_items};
@@ -15,7 +16,6 @@ ghost use Rattle.xd_ledger.specs.Books.{on_table};
 ghost use Rattle.xd_ledger.specs.Stops.{is_stopped};
 ghost use Rattle.xd_ledger.specs.Table.{has_joined, in_rota, joined};
 ghost use Rattle.xd_ledger.specs.Workers.{is_shut, slot_of};
-ghost use Rattle.xd_laws.specs.Called.{Called};
 ghost use Rattle.xd_session.specs.Compared.{stop_of_comparison};
 ghost use Rattle.xd_session.specs.Books.{books_of};
 ghost use Rattle.xd_session.specs.Joining.{IsBare, IsToJoin, TakenIn, filled, shared_in, sizes_in};

@@ -1,5 +1,5 @@
 // How the journal of a session ends.
-ghost use Rattle.std.specs.Prelude.{◌≡◌, ◌++◌, ◌∷◌, [], OnOk, true, false, unwrap_or, Some, if◌then◌else◌};
+ghost use Rattle.std.specs.Prelude.{◌≡◌, ◌++◌, ◌∷◌, [], OnOk, unwrap_or, if◌then◌else◌};
 ghost use Rattle.xd_journal.specs.declared.entry.Entry.TheVariants as entry;
 ghost use Rattle.xd_journal.specs.declared.entry.RunStop.TheVariants as run_stop;
 ghost use Rattle.xd_session.specs.Books.{books_of};

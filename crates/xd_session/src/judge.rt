@@ -1,11 +1,9 @@
 // What the session makes of a piece of news: its input follows, nothing does, or it is a breach.
-ghost use Rattle.std.specs.Prelude.{◌≡◌, ◌+◌, ◌==◌, ◌&&◌, ℕ, length, drop, not, true, false, IfOk, Some, is_some};
+ghost use Rattle.std.specs.Prelude.{◌≡◌, ◌+◌, ◌==◌, ◌&&◌, ℕ, not, true, false, IfOk, Some, is_some};
 ghost use Rattle.std.specs.List.{list_all};
 ghost use Rattle.std.specs.Str.{bytes_eq};
 ghost use Rattle.xd_journal.specs.declared.entry.Entry.TheVariants as entry;
 ghost use Rattle.xd_ledger.specs.Meaning.{any_open, given_ids, is_of, may_start_log};
-ghost use Rattle.xd_ledger.specs.Numbers.{all_among};
-ghost use Rattle.xd_ledger.specs.Plan.{items_named};
 ghost use Rattle.xd_ledger.specs.Proper.{may_follow, may_give_back, names_head};
 ghost use Rattle.xd_ledger.specs.Sharing.{State};
 ghost use Rattle.xd_ledger.specs.Table.{held, in_rota};
@@ -14,7 +12,7 @@ ghost use Rattle.xd_laws.specs.Called.{Reached};
 ghost use Rattle.xd_session.specs.Books.{books_of};
 ghost use Rattle.xd_session.specs.Judged.{follows_where, judged, silent_where};
 ghost use Rattle.xd_session.specs.Kept.{log_in};
-ghost use Rattle.xd_session.specs.Known.{first_item, is_behind, known_by};
+ghost use Rattle.xd_session.specs.Known.{first_item, is_after, known_by};
 ghost use Rattle.xd_session.specs.Rules.{At};
 
 use crate::known::named;
@@ -62,8 +60,8 @@ fn are_same(these: &[u32], those: &[u32]) -> bool
 impl<M: Mode> RunState<M> {
     // The worker holds the item of its slot after its head.
     #[tactic(auto, using(crate::proofs::Judging::unseated, crate::proofs::Judging::none_past))]
-    fn is_behind_head(&self, worker: u32, first: u32, index: u32) -> bool
-        ensures { result ≡ is_behind (first + index) (held worker self.now.books.ledger) }
+    fn is_after_head(&self, worker: u32, first: u32, index: u32) -> bool
+        ensures { result ≡ is_after (first + index) (held worker self.now.books.ledger) }
     {
         if !self.books.ledger.in_rota(worker) {
             return false;
@@ -76,19 +74,19 @@ impl<M: Mode> RunState<M> {
     }
 
     // The worker holds each of these tests after its head.
-    fn are_behind_head(&self, worker: u32, indices: &[u32]) -> bool
+    fn are_after_head(&self, worker: u32, indices: &[u32]) -> bool
         ensures { result ≡ list_all
-            (λ i. is_behind (first_item (slot_of worker (books_of self.now.books))
+            (λ i. is_after (first_item (slot_of worker (books_of self.now.books))
             (known_by self.now.known) + i) (held worker self.now.books.ledger)) indices.now }
     {
         let first = self.known.first_item(self.books.kept.slot_of(worker));
         indices
             .iter()
-            .all(|index| self.is_behind_head(worker, first, *index))
+            .all(|index| self.is_after_head(worker, first, *index))
     }
 
     // These tests answer the open steal: none, or all that were asked for, where the worker may give them.
-    #[tactic(auto, using(crate::proofs::Judging::named_behind))]
+    #[tactic(auto, using(crate::proofs::Judging::named_after))]
     fn may_give_back(&self, worker: u32, indices: &[u32]) -> bool
         ensures { (s : State) → At s (books_of self.now.books) (known_by self.now.known)
             (M.stands self.now.mode) → Reached s → result ≡ may_give_back worker indices.now s }
@@ -102,7 +100,7 @@ impl<M: Mode> RunState<M> {
         if indices.is_empty() {
             return true;
         }
-        are_same(indices, &steal.tests.items) && self.are_behind_head(worker, indices)
+        are_same(indices, &steal.tests.items) && self.are_after_head(worker, indices)
     }
 
     // The log of the head may start: it is its first, and its number is even and above the earlier ones.

@@ -1,18 +1,18 @@
 // Collections: whether one is in order, and how it compares with an earlier one.
 ghost use Rattle.std.specs.Prelude.{◌≡◌, ◌≤◌, ◌==◌, ◌&&◌, length, nat_le, IfOk, OnOk, true, false};
 ghost use Rattle.std.specs.List.{list_all};
-ghost use Rattle.std.specs.Str.{chars};
 ghost use Rattle.xd_edge.specs.Limits.{most_tests};
 ghost use Rattle.xd_journal.specs.declared.entry.Ids.TheVariants as ids;
 ghost use Rattle.xd_ledger.specs.Collections.{listed, with_list};
-ghost use Rattle.xd_ledger.specs.Proper.{is_plain, is_id, no_text_twice};
+ghost use Rattle.xd_edge.specs.Ids.{is_id};
+ghost use Rattle.xd_ledger.specs.Proper.{no_text_twice};
 ghost use Rattle.xd_session.specs.Compared.{compared, comparison, ids_to_list, place_in_lists};
 ghost use Rattle.xd_session.specs.Books.{books_of};
 
 use crate::books::RunBooks;
 use std::alloc::Global;
 use std::collections::BTreeSet;
-use xd_edge::{MAX_TESTS, OutOfMemory, Text, Texts};
+use xd_edge::{MAX_TESTS, OutOfMemory, Text, Texts, is_id};
 use xd_journal::Ids;
 use xd_ledger::{Listed, differ_at};
 
@@ -32,29 +32,10 @@ pub struct TakenList {
     pub comparison: Comparison,
 }
 
-fn is_printable(id: &str) -> bool
-    ensures { result ≡ list_all is_plain (chars id.now) }
-{
-    id.chars().all(|c| ' ' <= c && c != '\u{7f}')
-}
-
-fn is_empty(id: &str) -> bool
-    ensures { result ≡ (length (chars id.now) == 0) }
-{
-    id.is_empty()
-}
-
-fn is_id(text: &Text) -> bool
-    ensures { result ≡ is_id text.now }
-{
-    let id = text.as_str();
-    !is_empty(id) && is_printable(id)
-}
-
 fn are_all_ids(texts: &[Text]) -> bool
     ensures { result ≡ list_all is_id texts.now }
 {
-    texts.iter().all(|text| is_id(text))
+    texts.iter().all(|text| is_id(text.as_str()))
 }
 
 // No text stands twice. The cost of a text grows with the logarithm of their number.

@@ -1,5 +1,5 @@
 // The workers of a run, and their marks.
-ghost use Rattle.std.specs.Prelude.{◌≡◌, nat_le, map, length, true, if◌then◌else◌, ◌++◌, ◌∷◌, [], OnOk, IfOk, Some};
+ghost use Rattle.std.specs.Prelude.{◌≡◌, nat_le, length, true, if◌then◌else◌, ◌++◌, ◌∷◌, [], OnOk, IfOk, Some};
 ghost use Rattle.xd_ledger.specs.Books.{marked};
 ghost use Rattle.xd_ledger.specs.Proper.{most_workers};
 ghost use Rattle.xd_ledger.specs.State.{no_one};

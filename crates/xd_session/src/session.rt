@@ -3,7 +3,6 @@ ghost use Rattle.std.specs.Prelude.{◌≡◌, List, ◌++◌, ◌∷◌, [], le
 ghost use Rattle.xd_journal.specs.declared.news.News.{News};
 ghost use Rattle.xd_ledger.specs.Histories.{is_over, starts_from};
 ghost use Rattle.xd_ledger.specs.Owes.{someone_owes};
-ghost use Rattle.xd_ledger.specs.Plan.{Plan};
 ghost use Rattle.xd_ledger.specs.State.{no_one, after_entries};
 ghost use Rattle.xd_ledger.specs.Workers.{is_active};
 ghost use Rattle.xd_session.specs.Books.{books_of};

@@ -2,7 +2,7 @@
 ghost use Rattle.std.specs.Prelude.{◌≡◌, ◌≤◌, ◌+◌, ℕ, length, take, true, false, IfOk, OnOk, Some};
 ghost use Rattle.xd_journal.specs.declared.entry.Entry.TheVariants as entry;
 ghost use Rattle.xd_journal.specs.declared.news.What.TheVariants as what;
-ghost use Rattle.xd_journal.specs.Kept.{most_of_all, room_behind};
+ghost use Rattle.xd_journal.specs.Kept.{most_of_all, output_room};
 ghost use Rattle.xd_ledger.specs.Meaning.{head_bytes, kept_at_death, meaning_of, output_of};
 ghost use Rattle.xd_ledger.specs.Sharing.{State};
 ghost use Rattle.xd_ledger.specs.Workers.{has_collected, is_active, was_ready};
@@ -47,7 +47,7 @@ impl<M: Mode> Core<M> {
         ensures first { IfOk result (λ b. (s : State) →
             At s (books_of self.now.state.books) (known_by self.now.state.known)
             (M.stands self.now.state.mode) →
-            b ≡ take (room_behind self.now.spent)
+            b ≡ take (output_room self.now.spent)
             (head_bytes worker (log_in worker self.now.logs) s)) }
         ensures low { IfOk result (λ b. self.now.spent + length b ≤ most_of_all) }
     {

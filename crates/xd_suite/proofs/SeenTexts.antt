@@ -11,7 +11,7 @@ use Rattle.std.specs.Ordering.{is_eq, nat_cmp}
 use Rattle.std.specs.Str.{bytes_eq, encode_utf8_all}
 use Rattle.std.proofs.lemmas.Map.Text.{is_eq-slice_cmp}
 use Rattle.xd_suite.specs.Faults.{repeat_from, repeat_of}
-use Rattle.xd_suite.proofs.Texts.{bytes_eq-encodes, bytes_eq-sym}
+use Rattle.xd_edge.proofs.TextLemmas.{bytes_eq-encodes, bytes_eq-sym}
 
 abbrev pub Seen : Type 0
 Seen = BTreeSet (Bor (List ℕ))

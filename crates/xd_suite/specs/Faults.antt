@@ -1,10 +1,11 @@
 -- What is wrong with the data of a suite file: each rule, and the first that is broken. A choice of this project.
-use Rattle.std.specs.Prelude.{ℕ, ◌+◌, ◌==◌, nat_le, Bool, true, false, ◌&&◌, ◌||◌, not, List, [], ◌∷◌, ◌++◌, length, Option, Some, None, is_some, option_map, if◌then◌else◌, codes}
-use Rattle.std.specs.List.{list_all, list_any}
+use Rattle.std.specs.Prelude.{ℕ, ◌+◌, ◌==◌, nat_le, Bool, true, false, ◌&&◌, ◌||◌, not, List, [], ◌∷◌, ◌++◌, Option, Some, None, is_some, option_map, if◌then◌else◌, codes}
+use Rattle.std.specs.List.{list_any}
 use Rattle.std.specs.Option.{option_or}
 use Rattle.std.specs.Str.{bytes_eq, chars}
 use Rattle.toml.specs.Data.{Data, Items, no_items, item, Members, no_members, member, get_member, as_str, as_table}
 use Rattle.xd_edge.specs.declared.mode.ModeKind.TheVariants.{Load, LoadGroup}
+use Rattle.xd_edge.specs.Ids.{is_id}
 use Rattle.xd_edge.specs.Limits.{most_tests}
 use Rattle.xd_suite.specs.declared.test.Test.{Test}
 use Rattle.xd_suite.specs.declared.fault.SuiteWhat.{SuiteWhat}
@@ -73,18 +74,10 @@ has_group_kind ms = not (is_some (get_member (codes "group") ms)) || is_some (te
 abbrev pub has_kinds : Members → Bool
 has_kinds ms = is_some (text_at (codes "id") ms) && is_array_with (each_item_holds is_text) (array_at (codes "run") ms) && has_group_kind ms
 
--- no control character of ASCII
-abbrev pub is_printable : ℕ → Bool
-is_printable c = nat_le 32 c && not (c == 127)
-
--- an id or a group: at least one character, and each is printable
-abbrev pub is_printable_id : List ℕ → Bool
-is_printable_id id = not (length id == 0) && list_all is_printable id
-
 -- a text that stands there is an id
 abbrev pub is_id_if_any : Option (List ℕ) → Bool
 is_id_if_any None = true
-is_id_if_any (Some text) = is_printable_id (chars text)
+is_id_if_any (Some text) = is_id (chars text)
 
 -- `id` and `group` are ids, as far as they are texts
 abbrev pub has_good_ids : Members → Bool

@@ -1,14 +1,13 @@
 // The rules for the table of one test.
-ghost use Rattle.std.specs.Prelude.{◌≡◌, ◌==◌, length};
-ghost use Rattle.std.specs.List.{list_all};
-ghost use Rattle.std.specs.Str.{chars};
+ghost use Rattle.std.specs.Prelude.{◌≡◌};
 ghost use Rattle.toml.specs.View.{table_view};
-ghost use Rattle.xd_suite.specs.Faults.{fault_of_test, has_good_ids, has_group_kind, has_kinds, is_printable_id, is_id_if_any, is_printable, lacks_key};
+ghost use Rattle.xd_suite.specs.Faults.{fault_of_test, has_good_ids, has_group_kind, has_kinds, is_id_if_any, lacks_key};
 ghost use Rattle.xd_suite.specs.Tests.{text_at};
 
 use crate::SuiteWhat;
 use crate::table::{are_texts, array_at, count, field, has_test_keys, text_at};
 use toml::Table;
+use xd_edge::is_id;
 
 /// The first rule that the table breaks.
 pub fn fault_of_test(table: &Table) -> Option<SuiteWhat>
@@ -71,22 +70,4 @@ fn is_id_at(table: &Table, key: &str) -> bool
         Some(text) => is_id(text),
         None => true,
     }
-}
-
-fn is_id(id: &str) -> bool
-    ensures { result ≡ is_printable_id (chars id.now) }
-{
-    !is_empty(id) && is_printable(id)
-}
-
-fn is_empty(text: &str) -> bool
-    ensures { result ≡ (length (chars text.now) == 0) }
-{
-    text.is_empty()
-}
-
-fn is_printable(id: &str) -> bool
-    ensures { result ≡ list_all is_printable (chars id.now) }
-{
-    id.chars().all(|c| ' ' <= c && c != '\u{7f}')
 }

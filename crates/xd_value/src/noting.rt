@@ -1,5 +1,5 @@
 // The faults of a value that has no payload, noted in one walk.
-ghost use Rattle.std.specs.Prelude.{◌≡◌, ◌&&◌, not, nat_lt, true, IfOk, OnOk};
+ghost use Rattle.std.specs.Prelude.{◌≡◌, ◌&&◌, not, nat_lt, true, IfOk};
 ghost use Rattle.xd_value.specs.Canonical.{all_pass, trees_pass, pairs_pass, keys_hashable};
 ghost use Rattle.xd_value.specs.Noted.{Noted};
 ghost use Rattle.xd_value.specs.Tree.{depth, list, set, dict};

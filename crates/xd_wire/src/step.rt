@@ -28,7 +28,7 @@ pub fn step_at(
 ) -> Result<Then, OutOfMemory>
     requires { at ≤ length bytes.now }
     ensures step { IfOk result (LeadsTo bytes.now at (string_bytes line.new)) }
-    ensures ahead { IfOk result (BeginsAfter at (length bytes.now)) }
+    ensures preceding { IfOk result (BeginsAfter at (length bytes.now)) }
 {
     a_payload_reads_one();
     let header = match first_header(&bytes[at..]) {

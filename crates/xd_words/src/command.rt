@@ -1,6 +1,6 @@
 // The commands, as clap reads their words.
-ghost use Rattle.std.specs.Prelude.{◌≡◌, IfOk, codes, false, true};
-ghost use Rattle.clap.specs.Words.{app_of, is_simple_and_free, new_app, rule_of, with_rule};
+ghost use Rattle.std.specs.Prelude.{◌≡◌, IfOk, false, true};
+ghost use Rattle.clap.specs.Words.{app_of, is_simple_and_free, rule_of, with_rule};
 ghost use Rattle.xd_words.specs.Command.{main_app, plain_app, socketserver_app, wire_app, worker_app};
 ghost use Rattle.xd_words.specs.Command.{long_flag_rule, long_rule, path_rule, repeated_rule, short_flag_rule, short_rule};
 

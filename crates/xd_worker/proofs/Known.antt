@@ -17,7 +17,7 @@ use Rattle.xd_run_tests.specs.declared.input.Input.TheVariants as input
 use Rattle.xd_run_tests.specs.declared.phase.Phase.{Phase}
 use Rattle.xd_run_tests.specs.declared.phase.Phase.TheVariants.{Awaiting, Serving, Stopped, Over}
 use Rattle.xd_run_tests.specs.declared.phase.Phase.TheVariants as phase
-use Rattle.xd_run_tests.specs.History.{call_after, turn_after, size_opened, size_behind}
+use Rattle.xd_run_tests.specs.History.{call_after, turn_after, size_opened, size_after}
 use Rattle.xd_run_tests.proofs.Within.{all_known}
 use Rattle.xd_worker.specs.declared.function.Called.{Called}
 use Rattle.xd_worker.specs.declared.function.Called.TheVariants.{Runs, Refused}
@@ -40,9 +40,9 @@ Fits owed None m = Unit {0}
 Fits owed (Some s) m = FitsSize owed (call_after s.given).size m
 
 -- the same after one more input
-abbrev FitsBehind : Input → Bool → Option Service → ℕ → Type 0
-FitsBehind i owed None m = Unit {0}
-FitsBehind i owed (Some s) m = FitsSize owed (size_behind (call_after s.given).phase i (call_after s.given).size) m
+abbrev FitsAfter : Input → Bool → Option Service → ℕ → Type 0
+FitsAfter i owed None m = Unit {0}
+FitsAfter i owed (Some s) m = FitsSize owed (size_after (call_after s.given).phase i (call_after s.given).size) m
 
 abbrev IsBelow : Option ℕ → ℕ → Type 0
 IsBelow None m = Unit {0}
@@ -70,22 +70,22 @@ started_in : (run : Option ℕ) (size m : ℕ) → ((k : ℕ) → run ≡ Some k
 started_in None size m f le = tt
 started_in (Some k) size m f le = let lt : k < size = f k refl in omega arith
 
-fed_known : (s : Option Service) (i : Input) (n : ℕ) (t : WorkerTurn) → FitsBehind i t.duties.owed s (length t.duties.tests) → Known t → Known (fed_to s i n t)
+fed_known : (s : Option Service) (i : Input) (n : ℕ) (t : WorkerTurn) → FitsAfter i t.duties.owed s (length t.duties.tests) → Known t → Known (fed_to s i n t)
 fed_known None i n t f k = k
 fed_known (Some s) i n t f k =
     let g = given_in s i n in
-    let size : (turn_after s.given g).call.size ≡ size_behind (call_after s.given).phase i (call_after s.given).size = all_known.size s.given g in
+    let size : (turn_after s.given g).call.size ≡ size_after (call_after s.given).phase i (call_after s.given).size = all_known.size s.given g in
     all_asked_known s.channel (turn_after s.given g).asks _ (record {
       fits = (subst (λ (x : ℕ). x ≤ length t.duties.tests) (sym size) f.0, λ e. size ∙ f.1 e);
       run_in = started_in (turn_after s.given g).run (turn_after s.given g).call.size (length t.duties.tests) (all_known.starts s.given g) (subst (λ (x : ℕ). x ≤ length t.duties.tests) (sym size) f.0);
     })
 
 -- an input that is no suite
-fits_same : (i : Input) (owed : Bool) (s : Option Service) (m : ℕ) → ((p : Phase) (k : ℕ) → size_behind p i k ≡ k) → Fits owed s m → FitsBehind i owed s m
+fits_same : (i : Input) (owed : Bool) (s : Option Service) (m : ℕ) → ((p : Phase) (k : ℕ) → size_after p i k ≡ k) → Fits owed s m → FitsAfter i owed s m
 fits_same i owed None m same f = f
 fits_same i owed (Some s) m same f = subst (λ (x : ℕ). FitsSize owed x m) (sym (same (call_after s.given).phase (call_after s.given).size)) f
 
-plain_fed : (i : Input) (n : ℕ) (t : WorkerTurn) → ((p : Phase) (k : ℕ) → size_behind p i k ≡ k) → Known t → Known (fed i n t)
+plain_fed : (i : Input) (n : ℕ) (t : WorkerTurn) → ((p : Phase) (k : ℕ) → size_after p i k ≡ k) → Known t → Known (fed i n t)
 plain_fed i n t same k = fed_known t.duties.service i n t (fits_same i t.duties.owed t.duties.service (length t.duties.tests) same k.fits) k
 
 -- ---- messages
@@ -142,7 +142,7 @@ opened_fits (phase.Ending x) mode ts size e = omega (arith, e)
 opened_fits Stopped mode ts size e = omega (arith, e)
 opened_fits Over mode ts size e = omega (arith, e)
 
-suite_fits : (owed : Bool) (s : Option Service) (ts : List Test) (m : ℕ) → owed ≡ true → Fits owed s m → FitsBehind (input.Suite (ids_to_collect s ts)) false s (length ts)
+suite_fits : (owed : Bool) (s : Option Service) (ts : List Test) (m : ℕ) → owed ≡ true → Fits owed s m → FitsAfter (input.Suite (ids_to_collect s ts)) false s (length ts)
 suite_fits owed None ts m e f = tt
 suite_fits owed (Some s) ts m e f = (opened_fits (call_after s.given).phase s.mode ts (call_after s.given).size (f.1 e), λ z. cc)
 

@@ -46,7 +46,7 @@ use Rattle.xd_worker.specs.Table.{empty}
 use Rattle.xd_worker.specs.Talk.{Talk, told_tree, sent_how, payload_on, function_begun}
 use Rattle.xd_worker.specs.Worker.{Service, Duties, WorkerTurn, Opening, worker_turn_of, after_turn, running_in}
 use Rattle.xd_worker.specs.Turns.{Came, Told, SuiteRead, NoSuite, Printed, ChildEnded, LinkEnded, at_talk, ended_call, asked, all_asked, others, given_in, fed_to, fed, tests_begun, called, is_called, echo_ended, echoed, echoed_how, is_service, worker_stopped, did, did_unless, suite_input, ids_to_collect, suite_read, suite_refused, worker_turned}
-use Rattle.xd_worker.specs.History.{HeardInput, worker_after, turn_by, table_behind}
+use Rattle.xd_worker.specs.History.{HeardInput, worker_after, turn_by, table_after}
 use Rattle.xd_worker.specs.Logs.{CanOpen, AllOpen, LogLaw}
 use Rattle.xd_worker.proofs.Logs.{Plain, Evens, heard_evens, lost_evens, odd_evens, open_evens, close_evens, ended_here, Short, counted_short, counted_once, ended_short, close_short}
 
@@ -518,7 +518,7 @@ even_fits t (Some s) e = (e.evens.even, e.evens.plain)
 
 -- ---- inputs
 
-turned_good : (P : Type 0) (came : Came) (n : ℕ) (t : WorkerTurn) → (P → Counts (table_behind came t.talk.table).slot n) → Good P t → Good P (worker_turned came n t)
+turned_good : (P : Type 0) (came : Came) (n : ℕ) (t : WorkerTurn) → (P → Counts (table_after came t.talk.table).slot n) → Good P t → Good P (worker_turned came n t)
 turned_good P (Told said) n t k b =
     let e = even_fits t.talk.table t.duties.service b.fits in
     did_unless_good P t.duties.stopped (answer said t.talk.table) n (at_talk (λ d. record d { table = heard_of_message said d.table }) t) refl k (odd_answer said t.talk.table e.0 e.1)
@@ -554,6 +554,6 @@ last_is t (Some s) e c m h = e.evens.last c m h ∙ sym e.evens.next_is
 
 pub log_law : LogLaw
 log_law = record {
-  opens = λ h g k. let P = Counts (table_behind g.came (worker_after h).table).slot g.channels in (turned_good P g.came g.channels (worker_turn_of (worker_after h)) (λ p. p) (good_after h P)).all_open k;
+  opens = λ h g k. let P = Counts (table_after g.came (worker_after h).table).slot g.channels in (turned_good P g.came g.channels (worker_turn_of (worker_after h)) (λ p. p) (good_after h P)).all_open k;
   one = λ h c m z. last_is (worker_after h).table (worker_after h).duties.service (good_after h ⊥).fits c m z;
 }

@@ -81,13 +81,13 @@ Is (ChildDone outcome ms) came = came ≡ ChildEnded outcome ms
 Is LinkEnd came = came ≡ LinkEnded
 
 -- the table in which the channels are counted
-abbrev pub table_behind : Came → ChannelTable → ChannelTable
-table_behind (Told said) t = heard_of_message said t
-table_behind (SuiteRead ts) t = t
-table_behind (NoSuite text) t = t
-table_behind (Printed b) t = t
-table_behind (ChildEnded outcome ms) t = t
-table_behind LinkEnded t = lost t
+abbrev pub table_after : Came → ChannelTable → ChannelTable
+table_after (Told said) t = heard_of_message said t
+table_after (SuiteRead ts) t = t
+table_after (NoSuite text) t = t
+table_after (Printed b) t = t
+table_after (ChildEnded outcome ms) t = t
+table_after LinkEnded t = lost t
 
 -- a refusal has its reason
 abbrev pub RefusesFor : Worker → WorkerInput → SideFault → Type 0

@@ -5,7 +5,7 @@ use Rattle.xd_factory.specs.Numbers.{is_mine}
 use Rattle.xd_factory.specs.Slot.{is_here}
 use Rattle.xd_factory.specs.SideTable.{ChannelTable, Counts}
 use Rattle.xd_worker.specs.Worker.{Worker, Opening}
-use Rattle.xd_worker.specs.History.{HeardInput, table_behind, turn_by, worker_after}
+use Rattle.xd_worker.specs.History.{HeardInput, table_after, turn_by, worker_after}
 
 -- a log can open under the number that its start names: it is the next own number and no larger than the largest, the
 -- link has not ended, and the table is not full
@@ -22,7 +22,7 @@ AllOpen (o ∷ os) = CanOpen o.number o.table × AllOpen os
 
 -- whatever comes next, each log of its turn can open
 abbrev pub LogsOpen : Worker → Type 0
-LogsOpen w = (g : HeardInput) → Counts (table_behind g.came w.table).slot g.channels → AllOpen (turn_by w g).logs
+LogsOpen w = (g : HeardInput) → Counts (table_after g.came w.table).slot g.channels → AllOpen (turn_by w g).logs
 
 -- Whatever came, each log can open under the number that its start names, and the table holds at most one log: the one
 -- that opened last.

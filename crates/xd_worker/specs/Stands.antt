@@ -25,7 +25,7 @@ use Rattle.xd_worker.specs.Talk.{talk_of}
 use Rattle.xd_worker.specs.Worker.{Service, Duties, Worker, WorkerTurn, after_turn, running_in}
 use Rattle.xd_worker.specs.Turns.{given_in}
 use Rattle.xd_factory.specs.SideTable.{RefusedBy, MustRefuse}
-use Rattle.xd_worker.specs.History.{HeardInput, Is, table_behind, turn_by, worker_after, is_over, RefusesFor}
+use Rattle.xd_worker.specs.History.{HeardInput, Is, table_after, turn_by, worker_after, is_over, RefusesFor}
 
 -- the parts are those of this call of `run_tests`
 pub record IsService (r : TestsCall) (s : Service) : Type 0 where
@@ -84,14 +84,14 @@ HasTest c k = (h : List HeardInput) × StandsFor c h × (k < length (worker_afte
 pub record Does (c : WorkerCore) (a : WorkerActions) (w : Worker) (input : WorkerInput) : Type 0 where
   pub heard : HeardInput
   pub is : Is input heard.came
-  pub counts : Counts (table_behind heard.came w.table).slot heard.channels
+  pub counts : Counts (table_after heard.came w.table).slot heard.channels
   pub stands : Stands c a (turn_by w heard)
 
 -- what an input is, and that it was answered by the turn that it makes of this worker
 pub record Answers (c : WorkerCore) (w : Worker) (input : WorkerInput) (a : WorkerActions) : Type 0 where
   pub heard : HeardInput
   pub is : Is input heard.came
-  pub counts : Counts (table_behind heard.came w.table).slot heard.channels
+  pub counts : Counts (table_after heard.came w.table).slot heard.channels
   pub says : a.say ≡ (turn_by w heard).talk.says
   pub suite : a.suite ≡ (turn_by w heard).suite
   pub run : a.run ≡ (turn_by w heard).run

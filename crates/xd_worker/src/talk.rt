@@ -9,7 +9,7 @@ ghost use Rattle.xd_factory.specs.Table.{close_says, closing_message, is_long};
 ghost use Rattle.xd_factory.specs.SideTable.{channel_table, changed_at, opened};
 ghost use Rattle.xd_worker.specs.Worker.{logs_opened_by};
 ghost use Rattle.xd_worker.specs.Logs.{CanOpen, AllOpen};
-ghost use Rattle.xd_worker.specs.Talk.{talk_of, sent, sent_how, payload_on, event_told, opening, log_closed, function_ended, function_begun, status_told};
+ghost use Rattle.xd_worker.specs.Talk.{talk_of, sent, sent_how, payload_on, event_told, opening, log_closed, function_ended, status_told};
 
 use crate::status_value;
 use std::alloc::Global;

@@ -1,8 +1,6 @@
 // The call of `run_tests` on a link.
-ghost use Rattle.std.specs.Prelude.{◌≡◌, ◌∷◌, ℕ, nat_lt, IfOk, OnOk, Option, Some};
+ghost use Rattle.std.specs.Prelude.{◌≡◌, ◌∷◌, ℕ, IfOk, Option, Some};
 ghost use Rattle.xd_run_tests.specs.Turns.{CanTake};
-ghost use Rattle.xd_run_tests.specs.Line.{running_test};
-ghost use Rattle.xd_run_tests.specs.History.{Given, turn_after, call_after};
 ghost use Rattle.xd_run_tests.specs.declared.input.Input.{Input};
 
 use xd_edge::{ModeKind, OutOfMemory};

@@ -68,8 +68,8 @@ one_more [] (suc n) = refl
 one_more (p ∷ l) zero = refl
 one_more (p ∷ l) (suc n) = one_more l n
 
-none_behind : (l : List LineEntry) (n : ℕ) → IsIdle (drop n l) → drop (n + 1) l ≡ []
-none_behind l n idle = ap (λ (k : ℕ). drop k l) (let e : n + 1 ≡ suc n = omega arith in e) ∙ (one_more l n ∙ rest (drop n l) idle)
+none_later : (l : List LineEntry) (n : ℕ) → IsIdle (drop n l) → drop (n + 1) l ≡ []
+none_later l n idle = ap (λ (k : ℕ). drop k l) (let e : n + 1 ≡ suc n = omega arith in e) ∙ (one_more l n ∙ rest (drop n l) idle)
   where
     rest : (ps : List LineEntry) → IsIdle ps → drop 1 ps ≡ []
     rest ps (inl e) = ap (drop 1) e
@@ -85,7 +85,7 @@ taken_back ns t w serving idle =
     let was = w serving idle in
     let same : front t.call ++ kept ns (queue t.call) ≡ t.call.line =
     subst (λ (b : Bool). take (t.call.ended + (if b then 2 else 1)) t.call.line ++ kept ns (drop (t.call.ended + (if b then 2 else 1)) t.call.line) ≡ t.call.line) (sym idle)
-    (same_line ns t.call.line (t.call.ended + 1) (none_behind t.call.line t.call.ended was)) in
+    (same_line ns t.call.line (t.call.ended + 1) (none_later t.call.line t.call.ended was)) in
     subst (λ (l : List LineEntry). IsIdle (drop t.call.ended l)) (sym same) was
 
 stole : (ns : List ℕ) (t : CallTurn) → Waits t → Waits (stolen_if ns t)

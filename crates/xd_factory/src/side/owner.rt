@@ -1,5 +1,5 @@
 // The calls of the owner of a side.
-ghost use Rattle.std.specs.Prelude.{◌≡◌, ◌≢◌, ◌≤◌, ◌<◌, ◌+◌, ◌==◌, ◌↔◌, ℕ, map, IfOk, IfErr, OnErr, OnOk, IsErr, IsErrOf, IsSome, List, [], ◌∷◌, Bool, true, false, Option, Some, None, if◌then◌else◌};
+ghost use Rattle.std.specs.Prelude.{◌≡◌, ◌≢◌, ◌≤◌, ◌<◌, ◌+◌, ◌==◌, ◌↔◌, ℕ, map, IfOk, IfErr, OnErr, OnOk, IsErr, IsErrOf, List, [], ◌∷◌, true, false, Option, Some, None, if◌then◌else◌};
 ghost use Rattle.xd_value.specs.Tree.{text};
 ghost use Rattle.xd_value.specs.View.{view};
 ghost use Rattle.xd_value.specs.Canonical.{dumped};
@@ -7,7 +7,7 @@ ghost use Rattle.xd_value.specs.Payload.{IsPayload};
 ghost use Rattle.xd_channel.specs.State.{fresh};
 ghost use Rattle.xd_factory.specs.Slot.{Unseen, Here, is_seen, closed_slot, given_up_slot, give_up_says, function_ended_slot, received_slot, receive_answer, hooked_slot, hook_fault, hook_items, hook_end};
 ghost use Rattle.xd_factory.specs.Trees.{IsGot, received_trees, hooked_trees};
-ghost use Rattle.xd_factory.specs.Table.{closing_message, last_message, is_long, close_gives_at, close_says, close_refusal, close_fault_of, HasErrorPayload, IsRefusal, giving_says, send_refusal, sent_gives, IsSent};
+ghost use Rattle.xd_factory.specs.Table.{closing_message, is_long, close_gives_at, close_says, close_refusal, close_fault_of, HasErrorPayload, IsRefusal, giving_says, send_refusal, sent_gives, IsSent};
 
 use super::{MAX_ENTRIES, MAX_NUMBER, Side};
 use crate::{CloseFault, HookFault, OpenFault, SendFault, Unknown};

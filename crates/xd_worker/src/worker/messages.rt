@@ -1,7 +1,6 @@
 // The messages of the link, and its end.
-ghost use Rattle.std.specs.Prelude.{◌≡◌, ◌≤◌, List, ℕ, IfOk, IfErr, OnOk, Option, Some, None};
+ghost use Rattle.std.specs.Prelude.{◌≡◌, ◌≤◌, ℕ, IfOk, IfErr, OnOk, Option, Some, None};
 ghost use Rattle.xd_value.specs.View.{view};
-ghost use Rattle.xd_factory.specs.Said.{Said, Means};
 ghost use Rattle.xd_factory.specs.Trees.{taken_tree};
 ghost use Rattle.xd_factory.specs.declared.faults.SideFault.{SideFault};
 ghost use Rattle.xd_factory.specs.SideTable.{channel_table, lost, Counts};
@@ -17,13 +16,12 @@ use xd_run_tests::Input;
 use xd_value::Value;
 
 impl WorkerCore {
-    ghost use Rattle.xd_gateway.specs.Orders.{tree_order};
     ghost use Rattle.xd_factory.specs.View.{slot_of_number};
     ghost use Rattle.xd_factory.specs.declared.taken.Taken.TheVariants as taken;
     ghost use Rattle.xd_channel.specs.declared.end.End.{End};
     ghost use Rattle.xd_worker.specs.declared.input.WorkerInput.TheVariants.{Message as MessageCame, LinkEnd};
     ghost use Rattle.xd_worker.specs.Worker.{Worker, WorkerTurn, Service, Duties, worker_turn_of, executing, serving};
-    ghost use Rattle.xd_worker.specs.Turns.{at_talk, did, did_unless, is_service};
+    ghost use Rattle.xd_worker.specs.Turns.{did, did_unless, is_service};
     ghost use Rattle.xd_worker.specs.History.{IsToRefuse};
     ghost use Rattle.xd_worker.specs.Logs.{AllOpen, LogsOpen};
     ghost use Rattle.xd_worker.specs.Stands.{Stands, AreServices, AreDuties, Does, FaultHasReason, IsSmall};

@@ -1,5 +1,5 @@
 // The suite, and what the running test's program gave.
-ghost use Rattle.std.specs.Prelude.{◌≡◌, List, ℕ, IfOk, OnOk, IsSome, length, ◌<◌, ◌^◌, Option, Some, None, codes};
+ghost use Rattle.std.specs.Prelude.{◌≡◌, ℕ, IfOk, OnOk, IsSome, length, ◌<◌, ◌^◌, Option, Some, None};
 
 use super::WorkerCore;
 use crate::input::WorkerActions;
@@ -14,7 +14,6 @@ use xd_value::{DumpFault, dumps};
 
 impl WorkerCore {
     ghost use Rattle.xd_worker.specs.declared.input.WorkerInput.TheVariants.{SuiteBytes, SuiteTooLarge, SuiteUnread, Output, ChildDone};
-    ghost use Rattle.xd_suite.specs.declared.test.Test.{Test};
     ghost use Rattle.xd_worker.specs.Worker.{Worker, WorkerTurn, Service, worker_turn_of};
     ghost use Rattle.xd_worker.specs.Turns.{SuiteRead, NoSuite, ids_to_collect, suite_read, suite_refused, worker_turned};
     ghost use Rattle.xd_worker.specs.Logs.{AllOpen, LogsOpen};

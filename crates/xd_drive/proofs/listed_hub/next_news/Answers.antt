@@ -1,6 +1,5 @@
 use Rattle.std.proofs.Common.{ℕ, ap, refl}
 use Rattle.xd_journal.specs.declared.entry.Cause.TheVariants.{Ended}
-use Rattle.xd_journal.specs.declared.news.News.{News}
 use Rattle.xd_journal.specs.declared.news.What.TheVariants.{Gone}
 use Rattle.xd_drive.proofs.NextListed.{given-no-breach, given-started, gives-first, gives-gone}
 use Rattle.xd_drive.proofs.listed_hub.next_news.Goals as goal

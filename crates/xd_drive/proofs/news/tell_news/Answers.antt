@@ -1,6 +1,6 @@
 use Rattle.std.proofs.Common.{◌∙◌, ap}
 use Rattle.xd_drive.specs.Performing.{all_possible}
-use Rattle.xd_drive.proofs.Stepped.{between-is, follows-before, follows-behind, in_order, lines-are, tells-as}
+use Rattle.xd_drive.proofs.Stepped.{between-is, follows-before, follows-following, in_order, lines-are, tells-as}
 use Rattle.xd_drive.proofs.news.tell_news.Goals as goal
 
 pub tell_entries-requires-clause-order : goal.tell_entries-requires-clause-order
@@ -31,6 +31,6 @@ tell_entries-requires-clause-follows g c =
 
 pub returns-clause-follows : goal.returns-clause-follows
 returns-clause-follows g c =
-    follows-behind c.args.session.now c.step.new.self c.requires.stands.0 c.args.news c.requires.stands.1 (c.in_ok-step.ensures.stands c.requires.stands.0 c.requires.stands.1) c.step.ensures.settings
+    follows-following c.args.session.now c.step.new.self c.requires.stands.0 c.args.news c.requires.stands.1 (c.in_ok-step.ensures.stands c.requires.stands.0 c.requires.stands.1) c.step.ensures.settings
     c.in_ok-step.step.from c.in_ok-step.step.to c.journal.result.now c.in_ok-step.ensures.places.0 c.in_ok-step.ensures.places.1 c.journal.ensures.settings c.journal.ensures.entries
     c.tell_entries.new.reporter c.in_ok-shown.ensures.follows

@@ -3,7 +3,7 @@ use Rattle.std.specs.Prelude.{is_ok}
 use Rattle.std.proofs.lemmas.List.{length-take-le}
 use borrow.Rule.Slice.PartMut.{post_of}
 use Rattle.xd_link.proofs.SpringLemmas.{met_end}
-use Rattle.xd_frame.proofs.ReadBehind.{read_behind, resized, room_is, small_all}
+use Rattle.xd_frame.proofs.ReadAfter.{read_after, resized, room_is, small_all}
 use Rattle.xd_frame.proofs.pull.read_on.Goals as goal
 
 pub returns-in-Ok-clause-read : goal.returns-in-Ok-clause-read
@@ -22,7 +22,7 @@ returns-in-Ok-clause-read g c =
     record {
       piece = take c.in-Ok.n into;
       gave = c.in-Ok.ensures.gave;
-      new_is = read_behind old lent into (post_of begun (length lent - begun) lent) _ c.truncate.new.self.items begun c.in-Ok.n c.resize.new.self.len room.0 (sym at) (omega arith) fits c.truncate.ensures.items;
+      new_is = read_after old lent into (post_of begun (length lent - begun) lent) _ c.truncate.new.self.items begun c.in-Ok.n c.resize.new.self.len room.0 (sym at) (omega arith) fits c.truncate.ensures.items;
       length_is = length-take-le c.in-Ok.n into (omega arith);
       asked = within;
       bytes = small_all c.truncate.new.self.items c.type_inv.held;

@@ -92,23 +92,23 @@ before g c = record {
   programs = programs (g.K.Children.runs c.args.children) (g.K.Children.faults c.args.children);
 }
 
-abbrev behind : (g : Over) → Else-server-2 g → Beside
-behind g c = beside (g.F.Files.faults c.listen-heard.new.files) (ticking (g.T.Clock.moment c.listen-heard.new.clock) (g.T.Clock.coming c.listen-heard.new.clock))
+abbrev following : (g : Over) → Else-server-2 g → Beside
+following g c = beside (g.F.Files.faults c.listen-heard.new.files) (ticking (g.T.Clock.moment c.listen-heard.new.clock) (g.T.Clock.coming c.listen-heard.new.clock))
 
 abbrev last : (g : Over) → Else-server-2 g → Seen
 last g c = at_sink (g.N.Sink.sunk c.listen-heard.new.self.speaker.sink) (g.N.Sink.faults c.listen-heard.new.self.speaker.sink) (seen g.N.Sink.sunk g.N.Sink.faults c.drain-stop.new.self)
 
-goes : (g : Over) (c : Else-server-2 g) → Goes (Some c.in_ok-halt.halt) (stays g c) (behind g c) (last g c)
+goes : (g : Over) (c : Else-server-2 g) → Goes (Some c.in_ok-halt.halt) (stays g c) (following g c) (last g c)
 goes g c =
-    c.drain-stop.ensures.goes (stays g c) (behind g c) c.in_ok-halt.halt (g.N.Sink.sunk c.listen-heard.new.self.speaker.sink) (g.N.Sink.faults c.listen-heard.new.self.speaker.sink)
-    (still_goes g.N.Sink.sunk g.N.Sink.faults (stays g c) (behind g c) c.in_ok-halt.halt c.listen-heard.new.self c.close-is_closed.new.self c.close-is_closed.ensures.rest
+    c.drain-stop.ensures.goes (stays g c) (following g c) c.in_ok-halt.halt (g.N.Sink.sunk c.listen-heard.new.self.speaker.sink) (g.N.Sink.faults c.listen-heard.new.self.speaker.sink)
+    (still_goes g.N.Sink.sunk g.N.Sink.faults (stays g c) (following g c) c.in_ok-halt.halt c.listen-heard.new.self c.close-is_closed.new.self c.close-is_closed.ensures.rest
     (c.in_ok-halt.ensures.goes (stays g c) refl (c.in_ok-opened.ensures.serves (g.F.Files.held c.args.files.now) (g.F.Files.faults c.args.files.now) _ c.if-server.false)))
 
 joined : (g : Over) (c : Else-server-2 g) → Joined (stays g c) (before g c) (last g c) c.drain-stop.result (ring_of_sender c.put.new.self) (put c.put.new.self)
     (back (spring (g.S.Source.supply c.join-read.result.source) (g.S.Source.is_ended c.join-read.result.source) (g.S.Source.faults c.join-read.result.source)) (programs (g.K.Children.runs c.join-ran.result.children) (g.K.Children.faults c.join-ran.result.children))
     (ring_of_sender c.join-read.result.sender) (put c.join-read.result.sender) (ring_of_sender c.join-ran.result.sender) (put c.join-ran.result.sender) (mails c.join-ran.result.orders))
 joined g c =
-    let ring = c.put.ensures.ring ∙ ring_is (stays g c) (behind g c) (last g c) c.in_ok-halt.halt (goes g c) in
+    let ring = c.put.ensures.ring ∙ ring_is (stays g c) (following g c) (last g c) c.in_ok-halt.halt (goes g c) in
     let fresh = c.in_ok-opened.ensures.fresh in
     let source : (g.C.Crew.job_of c.in-Ok-start.reading).source ≡ c.args.link.source = cc (c.in-Ok-start.ensures.started, c.new-2.ensures.source) in
     let from_link : (g.C.Crew.job_of c.in-Ok-start.reading).sender ≡ c.in_ok-opened.opened.from_link = cc (c.in-Ok-start.ensures.started, c.new-2.ensures.sender) in
@@ -132,7 +132,7 @@ joined g c =
 pub finish-requires : goal.finish-requires
 finish-requires g c =
     let e = (goal.at.finish-requires g c).Else-server-2 in
-    (stays g e, behind g e, before g e, last g e, goes g e, refl, joined g e)
+    (stays g e, following g e, before g e, last g e, goes g e, refl, joined g e)
 
 pub returns : goal.returns
 returns g c =
@@ -148,7 +148,7 @@ returns g c =
     let v : Served c.finish.result.status held s0 s1 old new =
     served_at c.finish.result.status held s0 s1 old same (g.C.Crew.faults c.join-read.new.self) (g.D.Crew.faults c.join-ran.new.self)
     (c.join-read.ensures.still ∙ c.in-Ok-start.ensures.counted.still refl) (c.join-ran.ensures.still ∙ c.in-Ok.ensures.counted.still refl)
-    (c.finish.ensures.served (stays g e) (behind g e) (before g e) (last g e) (g.C.Crew.faults c.args.crew.now) (g.D.Crew.faults c.args.runner.now) (goes g e) refl (joined g e)
+    (c.finish.ensures.served (stays g e) (following g e) (before g e) (last g e) (g.C.Crew.faults c.args.crew.now) (g.D.Crew.faults c.args.runner.now) (goes g e) refl (joined g e)
     (still_closes g.N.Sink.sunk g.N.Sink.faults c.close-is_closed.result (g.N.Sink.sunk c.listen-heard.new.self.speaker.sink) (g.N.Sink.faults c.listen-heard.new.self.speaker.sink) c.close-is_closed.new.self.speaker c.drain-stop.new.self.speaker c.drain-stop.ensures.speaker c.close-is_closed.ensures.closes)) in
     record {
       served = v;

@@ -19,9 +19,9 @@ returns-then-is_err-clause-leaves g c =
 
 pub lines-preserved : goal.lines-preserved
 lines-preserved g c =
-    let ahead = subst (BeginsAfter c.lines.at (length c.args.bytes.now)) c.in-At.is c.in_ok-then.ensures.ahead in
+    let preceding = subst (BeginsAfter c.lines.at (length c.args.bytes.now)) c.in-At.is c.in_ok-then.ensures.preceding in
     record {
-      within = ahead.1;
+      within = preceding.1;
       took = subst (λ (t : Then). TookUpTo (texts_at c.args.bytes.now 0) (texts_after c.args.bytes.now t) (g.O.Sink.sunk c.args.out.now) (g.O.Sink.sunk c.write_all.new.sink)) c.in-At.is
           (up_to_next _ _ _ _ _ _ _ c.lines.invariant.took c.in_ok-then.ensures.step
           (subst (λ (l : List ℕ). Took l (g.O.Sink.sunk c.lines.out) (g.O.Sink.sunk c.write_all.new.sink)) c.as_bytes.ensures.value

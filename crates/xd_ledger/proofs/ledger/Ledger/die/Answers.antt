@@ -65,13 +65,13 @@ pub pour-requires-clause-apart : goal.pour-requires-clause-apart
 pour-requires-clause-apart c =
     let h = has_at c.args.worker c.self.inside.chains c.self.inside.rota.items c.self.inside.reported.items c.self.inside.who_joined (vec_capacity c.self.inside.reported) c.args.self.now c.self.view_is c.self.invariant c.requires in
     let r : c.chain_of-chain.result ≡ chain_in c.args.worker c.self.inside.rota.items = c.chain_of-chain.ensures ∙ ap (chain_in c.args.worker) c.deref.ensures.value in
-    ap (λ i. i == 0) r ∙ h.ahead
+    ap (λ i. i == 0) r ∙ h.preceding
 
 pub release_first-head-requires-clause-apart : goal.release_first-head-requires-clause-apart
 release_first-head-requires-clause-apart c =
     let h = has_at c.args.worker c.self.inside.chains c.self.inside.rota.items c.self.inside.reported.items c.self.inside.who_joined (vec_capacity c.self.inside.reported) c.args.self.now c.self.view_is c.self.invariant c.requires in
     let r : c.chain_of-chain.result ≡ chain_in c.args.worker c.self.inside.rota.items = c.chain_of-chain.ensures ∙ ap (chain_in c.args.worker) c.deref.ensures.value in
-    ap (λ i. i == 0) r ∙ h.ahead
+    ap (λ i. i == 0) r ∙ h.preceding
 
 pub returns-clause-head : goal.returns-clause-head
 returns-clause-head c =
@@ -83,5 +83,5 @@ pub returns-clause-rest : goal.returns-clause-rest
 returns-clause-rest c =
     let h = has_at c.args.worker c.self.inside.chains c.self.inside.rota.items c.self.inside.reported.items c.self.inside.who_joined (vec_capacity c.self.inside.reported) c.args.self.now c.self.view_is c.self.invariant c.requires in
     let r : c.chain_of-chain.result ≡ chain_in c.args.worker c.self.inside.rota.items = c.chain_of-chain.ensures ∙ ap (chain_in c.args.worker) c.deref.ensures.value in
-    let d : (0 == c.chain_of-chain.result) ≡ false = ap (λ i. 0 == i) r ∙ h.behind_pool in
+    let d : (0 == c.chain_of-chain.result) ≡ false = ap (λ i. 0 == i) r ∙ h.after_pool in
     rest_is c.args.retry c.chain_of-chain.result (chain_in c.args.worker c.self.inside.rota.items) c.len-rest.result c.self.inside.chains c.release_first-head.new.chains r d c.release_first-head.ensures.lists c.len-rest.ensures ∙ ap (λ (xs : List ℕ). length (drop 1 xs)) (sym h.holds) ∙ ap (λ u. length (drop 1 (held c.args.worker u))) c.self.view_is

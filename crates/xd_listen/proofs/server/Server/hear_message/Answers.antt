@@ -9,7 +9,7 @@ use Rattle.xd_listen.proofs.server.Server.hear_message.Goals as goal
 
 pub returns-in-Ok-clause-heard : goal.returns-in-Ok-clause-heard
 returns-in-Ok-clause-heard g c = λ a now s.
-    subst (λ (d : Door). ServesSoFar a now (to_start c.in-Ok.acts.suite) (record (spoken c.hear.new.self.core c.hear.new.self.is_broken (g.N.Sink.sunk c.hear.new.self.sink) (g.N.Sink.faults c.hear.new.self.sink) (seen g.N.Sink.sunk g.N.Sink.faults c.args.self.now)) { door = d })) (sym c.door_behind-door.ensures)
+    subst (λ (d : Door). ServesSoFar a now (to_start c.in-Ok.acts.suite) (record (spoken c.hear.new.self.core c.hear.new.self.is_broken (g.N.Sink.sunk c.hear.new.self.sink) (g.N.Sink.faults c.hear.new.self.sink) (seen g.N.Sink.sunk g.N.Sink.faults c.args.self.now)) { door = d })) (sym c.door_after-door.ensures)
     (message_heard a now (seen g.N.Sink.sunk g.N.Sink.faults c.args.self.now) c.hear.new.self.core c.hear.new.self.is_broken (g.N.Sink.sunk c.hear.new.self.sink) (g.N.Sink.faults c.hear.new.self.sink) c.in-Ok.acts
     c.in-Ok.ensures.writes c.in-Ok.ensures.count c.hear.ensures.later c.args.message (is_terminate_kind c.args.message.kind) refl c.requires.is_open c.in-Ok.ensures.answers s)
 

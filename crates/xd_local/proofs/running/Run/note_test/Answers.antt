@@ -11,8 +11,8 @@ returns g c = record {
     noted = record {
       entries = c.in_ok-add_round.ensures.entries;
       settings = c.add_round.ensures.settings;
-      ran = subst (λ (n : ℕ). RanChild (run_at c.args.suite.now c.args.test) n c.in_ok-came.came (g.K.Children.runs c.self.inside.children) (g.K.Children.runs c.run_child.new.children)) c.room_behind-room.ensures
-          (subst (λ (args : List (List ℕ)). RanChild args c.room_behind-room.result c.in_ok-came.came (g.K.Children.runs c.self.inside.children) (g.K.Children.runs c.run_child.new.children)) c.command.ensures.run c.in_ok-came.ensures.ran);
+      ran = subst (λ (n : ℕ). RanChild (run_at c.args.suite.now c.args.test) n c.in_ok-came.came (g.K.Children.runs c.self.inside.children) (g.K.Children.runs c.run_child.new.children)) c.output_room-room.ensures
+          (subst (λ (args : List (List ℕ)). RanChild args c.output_room-room.result c.in_ok-came.came (g.K.Children.runs c.self.inside.children) (g.K.Children.runs c.run_child.new.children)) c.command.ensures.run c.in_ok-came.ensures.ran);
       spent = ap (λ (l : List ℕ). c.self.inside.spent + length l) c.as_slice.ensures;
       faults = c.in_ok-came.ensures.faults;
       still = c.in_ok-came.ensures.still;

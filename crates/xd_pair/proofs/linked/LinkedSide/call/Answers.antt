@@ -1,7 +1,7 @@
 use Rattle.std.proofs.Common.{[], ◌∷◌, refl}
 use Rattle.xd_value.specs.View.{view}
 use Rattle.xd_pair.proofs.Sending.{dumped_is}
-use Rattle.xd_pair.proofs.Moves.{call_moves, behind}
+use Rattle.xd_pair.proofs.Moves.{call_moves, following}
 use Rattle.xd_pair.proofs.linked.LinkedSide.call.Goals as goal
 
 pub of-requires-clause-payload : goal.of-requires-clause-payload
@@ -11,4 +11,4 @@ pub returns-clause-step : goal.returns-clause-step
 returns-clause-step c =
     let s = c.args.self.now in
     call_moves s (record s { said = c.say.new.said }) c.args.number (view c.args.value.now) c.in_ok-payload.payload c.of.result c.in_ok-payload.ensures.payload c.in_ok-payload.ensures.dumped c.of.ensures refl
-    (behind s.said.items c.reserve.new.self.items c.say.new.said.items (c.of.result ∷ []) c.reserve.ensures.items c.say.ensures.items)
+    (following s.said.items c.reserve.new.self.items c.say.new.said.items (c.of.result ∷ []) c.reserve.ensures.items c.say.ensures.items)

@@ -1,6 +1,6 @@
 use Rattle.std.proofs.Common.{rules, sym, ap, ◌∙◌}
 use Rattle.xd_ledger.specs.Numbers.{without}
-use Rattle.xd_report.proofs.Rising.{rises-behind, without-first, without-those}
+use Rattle.xd_report.proofs.Rising.{rises-following, without-first, without-those}
 use Rattle.xd_report.proofs.held.Held.take.Goals as goal
 
 pub returns-then-is_first : goal.returns-then-is_first
@@ -9,7 +9,7 @@ returns-then-is_first c =
     c.pop_front.ensures.rest ∙ sym (without-first c.args.items.now _ (c.self.invariant.0 c.if-self.true) first.0 first.1) ∙ ap (without c.args.items.now) c.self.view_is
 
 pub invariant_of-self : goal.invariant_of-self
-invariant_of-self c = (λ _. rw c.pop_front.ensures.rest (rises-behind _ (c.self.invariant.0 c.if-self.true)), λ _. c.if-self.true)
+invariant_of-self c = (λ _. rw c.pop_front.ensures.rest (rises-following _ (c.self.invariant.0 c.if-self.true)), λ _. c.if-self.true)
 
 pub returns-then-is_end : goal.returns-then-is_end
 returns-then-is_end c =

@@ -12,6 +12,6 @@ returns c = λ t serves h.
     c.settle.ensures (record t { call = record (t.call) { line = t.call.line ++ Mark ∷ [] } }) serves
     (record {
       call = lined_call s r t.call (Mark ∷ []) serves e.others (ap length e.stands) e.queue
-          (λ ahead k. marked_both s.stands.items r.stands.items s.queue.items r.queue.items ahead e.stands e.queue k) (once_mark t.call.line ∙ h.call.held.once_is) h.call;
+          (λ preceding k. marked_both s.stands.items r.stands.items s.queue.items r.queue.items preceding e.stands e.queue k) (once_mark t.call.line ∙ h.call.held.once_is) h.call;
       acted = record { asks_are = h.acted.asks_are; run_is = h.acted.run_is };
     })

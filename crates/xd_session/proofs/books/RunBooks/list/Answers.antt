@@ -4,7 +4,8 @@ use Rattle.xd_journal.specs.declared.settings.Settings.{Settings}
 use Rattle.xd_ledger.specs.declared.member.Listed.{Listed}
 use Rattle.xd_ledger.specs.Books.{Books}
 use Rattle.xd_edge.specs.Limits.{most_tests}
-use Rattle.xd_ledger.specs.Proper.{is_id, most_workers, no_text_twice}
+use Rattle.xd_edge.specs.Ids.{is_id}
+use Rattle.xd_ledger.specs.Proper.{most_workers, no_text_twice}
 use Rattle.xd_session.proofs.Compares.{all_listed, settings_stay}
 use Rattle.xd_session.proofs.books.RunBooks.list.Goals as goal
 

@@ -8,7 +8,7 @@ use Rattle.xd_session.specs.Books.{books_of}
 use Rattle.xd_session.specs.Known.{known_by}
 use Rattle.xd_session.specs.Rules.{InStep}
 use Rattle.xd_session.proofs.Begin.{begun-step}
-use Rattle.xd_session.proofs.Steady.{owed-behind}
+use Rattle.xd_session.proofs.Steady.{owed-following}
 use Rattle.xd_session.proofs.session.Session.new.Goals as goal
 
 pub invariant_of-result : goal.invariant_of-result
@@ -21,7 +21,7 @@ invariant_of-result g c = λ h.
 pub returns-clause-owes : goal.returns-clause-owes
 returns-clause-owes g c = λ h.
     (let e : (books_of c.in_ok-books.books).settings ≡ c.args.settings = ap (λ (b : Books). b.settings) c.in_ok-books.ensures in
-    owed-behind _ _ _ _ _ _ _
+    owed-following _ _ _ _ _ _ _
     (begun-step c.args.settings c.start_all.new.journal.settings c.start_all.new.journal.entries.items (books_of c.start_all.new.books) (known_by c.new-2.result) (g.M.Mode.stands c.args.mode)
     (c.start_all.ensures.settings ∙ c.new-journal.ensures.settings) c.new-2.ensures c.requires.settings c.requires.fresh
     (c.in_ok-start_all.ensures.books ∙ ap (λ (s : Settings). (after_entries (no_one s) (starts_from 0 c.args.settings.workers)).books) e) c.in_ok-start_all.ensures.entries) h)

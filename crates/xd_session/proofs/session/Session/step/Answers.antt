@@ -3,7 +3,7 @@ use Rattle.xd_ledger.specs.Books.{Books}
 use Rattle.xd_ledger.specs.Workers.{is_active}
 use Rattle.xd_session.specs.Books.{books_of}
 use Rattle.xd_session.specs.Stands.{SessionSeen, state_of}
-use Rattle.xd_session.proofs.Steady.{owed-behind, stands-inside, stands-next, steady, step-new, step-next}
+use Rattle.xd_session.proofs.Steady.{owed-following, stands-inside, stands-next, steady, step-new, step-next}
 use Rattle.xd_session.proofs.session.Session.step.Goals as goal
 
 pub take-requires-clause-low : goal.take-requires-clause-low
@@ -45,4 +45,4 @@ returns-clause-owes g c = λ h.
     (let k = c.self.invariant (ap (λ (v : SessionSeen). v.whole) c.self.view_is ∙ c.requires.whole) in
     let act : is_active c.args.news.worker (books_of c.self.inside.core.state.books) ≡ true =
     ap (λ (b : Books). is_active c.args.news.worker b) k.at.books_are ∙ ap (λ (v : SessionSeen). is_active c.args.news.worker (state_of v).books) c.self.view_is ∙ c.requires.active in
-    owed-behind _ _ _ _ _ _ _ (step-next _ _ _ _ _ _ _ _ _ _ _ _ _ c.args.news.worker c.args.news.what k act (c.in_ok-take.ensures _ (steady _ _ _ _ _ _ _ k) k.short)) h)
+    owed-following _ _ _ _ _ _ _ (step-next _ _ _ _ _ _ _ _ _ _ _ _ _ c.args.news.worker c.args.news.what k act (c.in_ok-take.ensures _ (steady _ _ _ _ _ _ _ k) k.short)) h)

@@ -16,8 +16,8 @@ resized old now lent b s n ok e at again is same =
     )
 
 -- the read filled the first of that room, and the rest was cut off
-pub read_behind : (old lent into more rest out : List ℕ) (b n size : ℕ) → take b lent ≡ old → length old ≡ b → n ≤ length into → b + n ≤ size → out ≡ take (b + n) (take size ((take b lent ++ (into ++ more)) ++ rest)) → out ≡ old ++ take n into
-read_behind old lent into more rest out b n size e at within room is =
+pub read_after : (old lent into more rest out : List ℕ) (b n size : ℕ) → take b lent ≡ old → length old ≡ b → n ≤ length into → b + n ≤ size → out ≡ take (b + n) (take size ((take b lent ++ (into ++ more)) ++ rest)) → out ≡ old ++ take n into
+read_after old lent into more rest out b n size e at within room is =
     let whole : (take b lent ++ (into ++ more)) ++ rest ≡ old ++ ((into ++ more) ++ rest) = ap (λ (l : List ℕ). (l ++ (into ++ more)) ++ rest) e ∙ append_assoc old (into ++ more) rest in
     let first : take n ((into ++ more) ++ rest) ≡ take n into = ap (take n) (append_assoc into more rest) ∙ take-append-le n into (more ++ rest) within in
     let halves : take (b + n) (old ++ ((into ++ more) ++ rest)) ≡ old ++ take n into =
