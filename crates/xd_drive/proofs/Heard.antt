@@ -16,7 +16,8 @@ use Rattle.xd_laws.proofs.Logic.{differ, split-and, split-or, cases_of}
 use Rattle.xd_laws.proofs.Members.{has, is_member, has-member, has-same, has-set, has-cleared}
 use Rattle.xd_laws.proofs.Inputs.{collecting-keeps}
 use Rattle.xd_drive.specs.Agrees.{Agrees}
-use Rattle.xd_drive.specs.Marks.{Marks, is_end, is_ready, marked_heard}
+use Rattle.xd_journal.specs.Said.{is_end, is_ready}
+use Rattle.xd_drive.specs.Marks.{Marks, marked_heard}
 use Rattle.xd_drive.proofs.Runs.{Meant, leaves, readies}
 
 abbrev pub active : ℕ → List Member → Bool

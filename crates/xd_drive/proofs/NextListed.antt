@@ -5,7 +5,7 @@ use Rattle.xd_journal.specs.declared.entry.Cause.TheVariants.{Ended}
 use Rattle.xd_journal.specs.declared.news.News.{News}
 use Rattle.xd_journal.specs.declared.news.What.TheVariants.{Gone}
 use Rattle.xd_drive.specs.Listed.{GivesListed, from_started, gives_of, is_listed, may_give, place_of_turn}
-use Rattle.xd_drive.specs.Marks.{is_breach}
+use Rattle.xd_journal.specs.Said.{is_breach}
 
 both_true : (a b : Bool) → (a && not b) ≡ true → (a ≡ true) × (b ≡ false)
 both_true true true h = absurd (cc)

@@ -35,7 +35,7 @@ use Rattle.xd_drive.specs.Agrees.{Agrees}
 use Rattle.xd_drive.specs.Marks.{Marks, may_tell}
 use Rattle.xd_drive.specs.Performing.{marks_after, marks_after_entry, all_possible, possible}
 use Rattle.xd_drive.proofs.Bounds.{Bounded, few-of_held, few-of_pool, few-of_slot, named-few}
-use Rattle.xd_session.proofs.Orders.{Tells, tells, tells-acts}
+use Rattle.xd_rules.proofs.Orders.{Tells, tells, tells-acts}
 
 -- an order, or a start at a slot below the limit
 abbrev pub plain : Bool → ℕ → Entry → Bool

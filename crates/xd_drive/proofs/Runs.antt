@@ -37,8 +37,8 @@ use Rattle.xd_laws.proofs.StealRule.{steal_rule}
 use Rattle.xd_laws.proofs.EachRule.{each_rule}
 use Rattle.xd_laws.proofs.ScopeInputs.{Scoped}
 use Rattle.xd_laws.proofs.ScopeRule.{scope_rule, scoped-none}
-use Rattle.xd_session.proofs.Closing.{state-grown}
-use Rattle.xd_drive.specs.Marks.{is_ready, is_end}
+use Rattle.xd_rules.proofs.Closing.{state-grown}
+use Rattle.xd_journal.specs.Said.{is_ready, is_end}
 
 -- the worker leaves by this entry
 abbrev pub leaves : ℕ → Entry → Bool

@@ -25,7 +25,8 @@ use Rattle.xd_laws.proofs.Logic.{split-and, split-or}
 use Rattle.xd_drive.specs.declared.written.Written.TheVariants.{Whole, Broken}
 use Rattle.xd_drive.specs.Agrees.{Agrees}
 use Rattle.xd_drive.specs.Going.{HubScene, TakesNews, TellsEntries, added_by}
-use Rattle.xd_drive.specs.Marks.{Marks, is_end, marked_heard}
+use Rattle.xd_journal.specs.Said.{is_end}
+use Rattle.xd_drive.specs.Marks.{Marks, marked_heard}
 use Rattle.xd_drive.specs.Performing.{AddsAll, Performs, marks_after, marks_after_entry, all_possible, entries_between, is_start_of, was_started}
 use Rattle.xd_report.specs.Printing.{ShowsLines}
 use Rattle.xd_drive.specs.Taken.{taken_with}
@@ -95,7 +96,7 @@ agrees-inactive b marks n member off a = record {
         (let same : n.worker ≡ w = same_of n.worker w (split-and (n.worker == w) (is_end n.what) new).0 in
         subst (λ (v : ℕ). (has_member v (λ m. true) b ≡ true) × (is_active v b ≡ false)) same (member, off))
   ];
-  ready = λ w h. ap (λ (q : Bool). q || (n.worker == w && Rattle.xd_drive.specs.Marks.is_ready n.what)) (a.ready w h);
+  ready = λ w h. ap (λ (q : Bool). q || (n.worker == w && Rattle.xd_journal.specs.Said.is_ready n.what)) (a.ready w h);
 }
   where
     same_of : (v w : ℕ) → (v == w) ≡ true → v ≡ w

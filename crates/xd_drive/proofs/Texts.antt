@@ -20,7 +20,7 @@ use Rattle.xd_ledger.specs.Histories.{first_starts, starts_from}
 use Rattle.xd_report.specs.declared.counts.Counts.{Counts}
 use Rattle.xd_report.specs.Blocks.{block_of, blocks_from}
 use Rattle.xd_report.specs.Lines.{last_of_slot, lines_from, lines_of, replacing, run_lines}
-use Rattle.xd_report.specs.StopLine.{line_of_stop, refusal}
+use Rattle.xd_phrases.specs.StopLine.{line_of_stop, refusal}
 use Rattle.xd_report.specs.Summary.{counted, counted_from, counts, summary_text}
 use Rattle.xd_report.specs.Tests.{mode_of}
 use Rattle.xd_report.specs.Text.{run_tail, run_text, tail_text, text_of}
@@ -145,7 +145,7 @@ module _ (ys : List Entry) (h : list_all silent ys ≡ true) where
   stop-following mode xs (Some (MaxFail count)) = refl
   stop-following mode xs (Some (Restarts w limit)) = refl
   stop-following mode xs (Some (Unequal w other place)) = refl
-  stop-following mode xs (Some (CollectError w)) = ap (λ (l : List ℕ). Rattle.xd_report.specs.StopLine.refused_line mode w l) (refusal-following w xs)
+  stop-following mode xs (Some (CollectError w)) = ap (λ (l : List ℕ). Rattle.xd_phrases.specs.StopLine.refused_line mode w l) (refusal-following w xs)
   stop-following mode xs (Some OutFault) = refl
 
   pub tail-following : (x : Settings) (xs : List Entry) → run_tail x (xs ++ ys) ≡ run_tail x xs

@@ -3,7 +3,8 @@ ghost use Rattle.std.specs.Prelude.{◌≡◌, ◌<◌, ◌≤◌, ◌+◌, ◌+
 ghost use Rattle.xd_journal.specs.declared.entry.Entry.TheVariants.{Start, Kill};
 ghost use Rattle.xd_drive.specs.Calls.{is_order};
 ghost use Rattle.xd_drive.specs.Listed.{GivesListed, from_started, is_listed, marks_by, may_give, others_of, place_of_turn, refusal_of, starts_of, unkilled, was_killed};
-ghost use Rattle.xd_drive.specs.Marks.{is_breach, may_tell, no_marks};
+ghost use Rattle.xd_journal.specs.Said.{is_breach};
+ghost use Rattle.xd_drive.specs.Marks.{may_tell, no_marks};
 
 use crate::Hub;
 use crate::copies::{copy_news, copy_order};

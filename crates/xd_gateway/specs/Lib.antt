@@ -1,6 +1,8 @@
-pub mod Words
 pub mod Calls
-pub mod Kwargs
-pub mod Orders
 pub mod Events
+pub mod Functions
+pub mod Kwargs
 pub mod Limits
+pub mod Orders
+pub mod Status
+pub mod Words

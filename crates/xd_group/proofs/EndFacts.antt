@@ -12,14 +12,14 @@ use Rattle.xd_post.specs.Post.{Ring}
 use Rattle.xd_links.specs.Links.{ring_of_link, ring_of_mail, sources_of}
 use Rattle.xd_links.specs.Runs.{news_of}
 use Rattle.xd_group.specs.Fates.{EndedFrom, is_linked}
-use Rattle.xd_group.specs.Heard.{says_send_fault}
+use Rattle.xd_peer.specs.Heard.{says_send_fault}
 use Rattle.xd_group.specs.Kept.{Kept, said_of_worker}
 use Rattle.xd_group.specs.Late.{IsLateAt, Late, Settled}
-use Rattle.xd_group.specs.Pages.{HasPage, Page, taken_of_link}
-use Rattle.xd_group.specs.PostView.{ends_of, has_ended, losses_of, page_by, pages_of}
+use Rattle.xd_peer.specs.Pages.{HasPage, Page, taken_of_link}
+use Rattle.xd_peer.specs.PeerView.{ends_of, has_ended, losses_of, page_by, pages_of}
 use Rattle.xd_group.specs.declared.fate.Fate.{Fate}
 use Rattle.xd_group.specs.declared.fate.Fate.TheVariants as fate
-use Rattle.xd_group.specs.declared.post.Post.{Post}
+use Rattle.xd_peer.specs.declared.peer.Peer.{Peer}
 use Rattle.xd_group.proofs.Keeping.{map_read}
 use Rattle.xd_group.proofs.LossFacts.{fault_lost}
 use Rattle.xd_group.proofs.PageFacts.{never}
@@ -34,10 +34,10 @@ and_right false b h = absurd (cc h)
 
 module _ {N : Type 0} {g : _} where
   -- where nothing more is to come of any, it is so with each that is read
-  pub ended_from : (xs : List (Option (Post N g))) (fates : List Fate) → map is_some (pages_of xs) ≡ map is_linked fates → list_all has_ended xs ≡ true → EndedFrom 0 (ends_of xs) fates
+  pub ended_from : (xs : List (Option (Peer N g))) (fates : List Fate) → map is_some (pages_of xs) ≡ map is_linked fates → list_all has_ended xs ≡ true → EndedFrom 0 (ends_of xs) fates
   ended_from xs fates seats all k h f = at xs fates k seats all f
     where
-      at : (xs : List (Option (Post N g))) (fs : List Fate) (k : ℕ) → map is_some (pages_of xs) ≡ map is_linked fs → list_all has_ended xs ≡ true → slice_get fs k ≡ Some fate.Linked → slice_get (ends_of xs) k ≡ Some true
+      at : (xs : List (Option (Peer N g))) (fs : List Fate) (k : ℕ) → map is_some (pages_of xs) ≡ map is_linked fs → list_all has_ended xs ≡ true → slice_get fs k ≡ Some fate.Linked → slice_get (ends_of xs) k ≡ Some true
       at [] [] k s a f = absurd (cc f)
       at [] (t ∷ fs) k s a f = absurd (cc s)
       at (o ∷ xs) [] k s a f = absurd (cc f)
@@ -49,7 +49,7 @@ module _ {N : Type 0} {g : _} where
       at (o ∷ xs) (t ∷ fs) (suc k) s a f = let rest : map is_some (pages_of xs) ≡ map is_linked fs = cc s in at xs fs k rest (and_right (has_ended o) (list_all has_ended xs) a) f
 
   -- where its reader was started a link has a page
-  page_read : (xs : List (Option (Post N g))) (fates : List Fate) (k : ℕ) → map is_some (pages_of xs) ≡ map is_linked fates → slice_get fates k ≡ Some fate.Linked → HasPage (pages_of xs) k
+  page_read : (xs : List (Option (Peer N g))) (fates : List Fate) (k : ℕ) → map is_some (pages_of xs) ≡ map is_linked fates → slice_get fates k ≡ Some fate.Linked → HasPage (pages_of xs) k
   page_read [] [] k s f = absurd (cc f)
   page_read [] (t ∷ fs) k s f = absurd (cc s)
   page_read (o ∷ xs) [] k s f = absurd (cc f)
@@ -61,19 +61,19 @@ module _ {N : Type 0} {g : _} where
   page_read (o ∷ xs) (t ∷ fs) (suc k) s f = let rest : map is_some (pages_of xs) ≡ map is_linked fs = cc s in page_read xs fs k rest f
 
   -- where the news of a worker whose link is read say that a send failed, a write to its link failed
-  pub said_lost : (suite : List ℕ) (mode : ModeKind) (taken : List (Option (List LinkNews))) (calls : List Entry) (given : List News) (workers : List ℕ) (xs : List (Option (Post N g))) (fates : List Fate) (k w : ℕ) → Kept suite mode taken calls given workers (pages_of xs) → map is_some (pages_of xs) ≡ map is_linked fates
+  pub said_lost : (suite : List ℕ) (mode : ModeKind) (taken : List (Option (List LinkNews))) (calls : List Entry) (given : List News) (workers : List ℕ) (xs : List (Option (Peer N g))) (fates : List Fate) (k w : ℕ) → Kept suite mode taken calls given workers (pages_of xs) → map is_some (pages_of xs) ≡ map is_linked fates
       → slice_get workers k ≡ Some w → slice_get fates k ≡ Some fate.Linked → list_any says_send_fault (said_of_worker w given) ≡ true → slice_get (losses_of xs) k ≡ Some true
   said_lost suite mode taken calls given workers xs fates k w kept seats at is h =
       let it = page_read xs fates k seats is in
       fault_lost xs k it.0 it.1 ((kept.own k it.0 it.1).known) (ap (list_any says_send_fault) (kept.said k w it.0 at it.1) ∙ h)
 
-  page_ended : (xs : List (Option (Post N g))) (k : ℕ) → slice_get (ends_of xs) k ≡ Some true → HasPage (pages_of xs) k
+  page_ended : (xs : List (Option (Peer N g))) (k : ℕ) → slice_get (ends_of xs) k ≡ Some true → HasPage (pages_of xs) k
   page_ended [] k e = absurd (cc e)
   page_ended (None ∷ xs) zero e = absurd (cc e)
   page_ended (Some p ∷ xs) zero e = (page_by p, refl)
   page_ended (o ∷ xs) (suc k) e = page_ended xs k e
 
-  pub late_ended : (first : List (Option Settled)) (taken : List (Option (List LinkNews))) (xs : List (Option (Post N g))) (k : ℕ) → slice_get (ends_of xs) k ≡ Some true → ∥ Late first taken (pages_of xs) ∥₁ → ∥ IsLateAt (pages_of xs) k ∥₁
+  pub late_ended : (first : List (Option Settled)) (taken : List (Option (List LinkNews))) (xs : List (Option (Peer N g))) (k : ℕ) → slice_get (ends_of xs) k ≡ Some true → ∥ Late first taken (pages_of xs) ∥₁ → ∥ IsLateAt (pages_of xs) k ∥₁
   late_ended first taken xs k e late = ∥∥₁_map late there
     where
       there : Late first taken (pages_of xs) → IsLateAt (pages_of xs) k

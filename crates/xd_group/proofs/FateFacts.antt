@@ -4,11 +4,11 @@ use Rattle.std.specs.Prelude.{◌==◌, ◌||◌, if◌then◌else◌, is_some, 
 use Rattle.std.proofs.lemmas.Bool.Decides.{nat_tests}
 use Rattle.std.proofs.lemmas.List.{map-append}
 use Rattle.xd_drive.specs.Listed.{is_listed}
-use Rattle.xd_group.specs.Children.{AskedOfLink, children_asked, child_asked, child_changed_at, failed_starts, reaped_child}
+use Rattle.xd_starts.specs.Children.{AskedOfLink, children_asked, child_asked, child_changed_at, failed_starts, reaped_child}
 use Rattle.xd_group.specs.Fates.{KeptFrom, SoFrom, has_link, is_refused, is_unlinked, workers_with}
 use Rattle.xd_group.specs.Few.{count_with}
 use Rattle.xd_group.specs.Returned.{end_told}
-use Rattle.xd_group.specs.declared.child.Child.{Child}
+use Rattle.xd_starts.specs.declared.child.Child.{Child}
 use Rattle.xd_group.specs.declared.fate.Fate.{Fate}
 use Rattle.xd_group.specs.declared.fate.Fate.TheVariants as fate
 

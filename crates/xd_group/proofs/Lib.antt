@@ -1,5 +1,3 @@
-pub mod Asking
-pub mod Calls
 pub mod Counting
 pub mod EndFacts
 pub mod Ending
@@ -10,8 +8,6 @@ pub mod Known
 pub mod LossFacts
 pub mod Marking
 pub mod PageFacts
-pub mod PostFacts
 pub mod Running
 pub mod Saying
-pub mod Sending
 pub mod Stepping

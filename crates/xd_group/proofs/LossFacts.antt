@@ -8,12 +8,12 @@ use Rattle.std.proofs.lemmas.List.{map-append, map-set}
 use Rattle.std.proofs.lemmas.Option.{slice_get-map}
 use Rattle.xd_links.proofs.LinkFacts.{here}
 use Rattle.xd_group.specs.Fates.{is_linked}
-use Rattle.xd_group.specs.Heard.{says_send_fault}
+use Rattle.xd_peer.specs.Heard.{says_send_fault}
 use Rattle.xd_group.specs.Kills.{KeepsLost, Loses, LostAt}
-use Rattle.xd_group.specs.Pages.{Page}
-use Rattle.xd_group.specs.PostView.{is_lost_at, losses_of, page_by, page_of, pages_of}
+use Rattle.xd_peer.specs.Pages.{Page}
+use Rattle.xd_peer.specs.PeerView.{is_lost_at, losses_of, page_by, page_of, pages_of}
 use Rattle.xd_group.specs.declared.fate.Fate.{Fate}
-use Rattle.xd_group.specs.declared.post.Post.{Post}
+use Rattle.xd_peer.specs.declared.peer.Peer.{Peer}
 
 -- ---- lists of flags
 
@@ -56,37 +56,37 @@ map_length : {X Y : Type 0} (f : X → Y) (xs : List X) → length (map f xs) �
 map_length f [] = refl
 map_length f (x ∷ xs) = omega (arith, map_length f xs)
 
--- ---- posts
+-- ---- peers
 
 set_some : (ls : List Bool) (k : ℕ) → slice_get ls k ≡ Some true → set ls k true ≡ ls
 set_some ls k e = set_same ls k true e
 
 module _ {N : Type 0} {g : _} where
-  seats_of : (xs : List (Option (Post N g))) → map is_some (pages_of xs) ≡ map is_some xs
+  seats_of : (xs : List (Option (Peer N g))) → map is_some (pages_of xs) ≡ map is_some xs
   seats_of [] = refl
   seats_of (None ∷ xs) = ap (λ (l : List Bool). false ∷ l) (seats_of xs)
   seats_of (Some p ∷ xs) = ap (λ (l : List Bool). true ∷ l) (seats_of xs)
 
   -- a link stays where it is
-  pub seats_kept : (xs : List (Option (Post N g))) (k : ℕ) (was : Option (Post N g)) (a b : Post N g) → was ≡ Some a → slice_get xs k ≡ Some was → map is_some (pages_of (slice_set xs k (Some b))) ≡ map is_some (pages_of xs)
+  pub seats_kept : (xs : List (Option (Peer N g))) (k : ℕ) (was : Option (Peer N g)) (a b : Peer N g) → was ≡ Some a → slice_get xs k ≡ Some was → map is_some (pages_of (slice_set xs k (Some b))) ≡ map is_some (pages_of xs)
   seats_kept xs k was a b is at =
       seats_of (slice_set xs k (Some b)) ∙ (map-set is_some xs k (Some b) ∙ (set_some (map is_some xs) k (slice_get-map is_some xs k ∙ ap (option_map is_some) (at ∙ ap Some is)) ∙ sym (seats_of xs)))
 
-  read_lost : (xs : List (Option (Post N g))) (k : ℕ) (was : Option (Post N g)) (a : Post N g) (b : Bool) → was ≡ get_or xs k was → was ≡ Some a → slice_get (losses_of xs) k ≡ Some b → a.is_lost ≡ b
+  read_lost : (xs : List (Option (Peer N g))) (k : ℕ) (was : Option (Peer N g)) (a : Peer N g) (b : Bool) → was ≡ get_or xs k was → was ≡ Some a → slice_get (losses_of xs) k ≡ Some b → a.is_lost ≡ b
   read_lost xs k was a b at is e =
       let there : slice_get (losses_of xs) k ≡ Some a.is_lost = slice_get-map is_lost_at xs k ∙ ap (option_map is_lost_at) (here is_lost_at xs k was b e at ∙ ap Some is) in
       let both : Some a.is_lost ≡ Some b = sym there ∙ e in cc both
 
-  pub lost_kept : (xs : List (Option (Post N g))) (k : ℕ) (was : Option (Post N g)) (a b : Post N g) → was ≡ get_or xs k was → was ≡ Some a → (a.is_lost ≡ true → b.is_lost ≡ true) → KeepsLost (losses_of xs) (losses_of (slice_set xs k (Some b)))
+  pub lost_kept : (xs : List (Option (Peer N g))) (k : ℕ) (was : Option (Peer N g)) (a b : Peer N g) → was ≡ get_or xs k was → was ≡ Some a → (a.is_lost ≡ true → b.is_lost ≡ true) → KeepsLost (losses_of xs) (losses_of (slice_set xs k (Some b)))
   lost_kept xs k was a b at is more i e =
       ap (λ (l : List Bool). slice_get l i) (map-set is_lost_at xs k (Some b)) ∙ set_keeps (losses_of xs) k i b.is_lost (λ h. more (read_lost xs k was a true at is h)) e
 
-  lost_there : (xs : List (Option (Post N g))) (k : ℕ) (b : Post N g) (c : Bool) → k < length xs → c ≡ b.is_lost → LostAt (then_some c k) (losses_of (slice_set xs k (Some b)))
+  lost_there : (xs : List (Option (Peer N g))) (k : ℕ) (b : Peer N g) (c : Bool) → k < length xs → c ≡ b.is_lost → LostAt (then_some c k) (losses_of (slice_set xs k (Some b)))
   lost_there xs k b false h e = tt
   lost_there xs k b true h e =
       ap (λ (l : List Bool). slice_get l k) (map-set is_lost_at xs k (Some b)) ∙ (set_there (losses_of xs) k b.is_lost (omega (arith, h, map_length is_lost_at xs)) ∙ ap Some (sym e))
 
-  lost_only : (xs : List (Option (Post N g))) (k i : ℕ) (b : Post N g) (c : Bool) → c ≡ b.is_lost → slice_get (losses_of (slice_set xs k (Some b))) i ≡ Some true → (slice_get (losses_of xs) i ≡ Some true) ⊎ (then_some c k ≡ Some i)
+  lost_only : (xs : List (Option (Peer N g))) (k i : ℕ) (b : Peer N g) (c : Bool) → c ≡ b.is_lost → slice_get (losses_of (slice_set xs k (Some b))) i ≡ Some true → (slice_get (losses_of xs) i ≡ Some true) ⊎ (then_some c k ≡ Some i)
   lost_only xs k i b c same e = by (set_only (losses_of xs) k i b.is_lost (sym (ap (λ (l : List Bool). slice_get l i) (map-set is_lost_at xs k (Some b))) ∙ e))
     where
       by : (slice_get (losses_of xs) i ≡ Some true) ⊎ ((b.is_lost ≡ true) × (k ≡ i)) → (slice_get (losses_of xs) i ≡ Some true) ⊎ (then_some c k ≡ Some i)
@@ -94,27 +94,27 @@ module _ {N : Type 0} {g : _} where
       by (inr p) = inr (ap (λ (x : Bool). then_some x k) (same ∙ p.0) ∙ ap Some p.1)
 
   -- a write may have failed to the one link that is set
-  pub lost_set : (xs : List (Option (Post N g))) (k : ℕ) (was : Option (Post N g)) (a b : Post N g) (c : Bool) → was ≡ get_or xs k was → was ≡ Some a → k < length xs → (a.is_lost ≡ true → b.is_lost ≡ true) → c ≡ b.is_lost → Loses (then_some c k) (losses_of xs) (losses_of (slice_set xs k (Some b)))
+  pub lost_set : (xs : List (Option (Peer N g))) (k : ℕ) (was : Option (Peer N g)) (a b : Peer N g) (c : Bool) → was ≡ get_or xs k was → was ≡ Some a → k < length xs → (a.is_lost ≡ true → b.is_lost ≡ true) → c ≡ b.is_lost → Loses (then_some c k) (losses_of xs) (losses_of (slice_set xs k (Some b)))
   lost_set xs k was a b c at is within more same = record { keeps = lost_kept xs k was a b at is more; at = lost_there xs k b c within same; only = λ i e. lost_only xs k i b c same e }
 
-  pub lost_more : (xs all : List (Option (Post N g))) (o : Option (Post N g)) → all ≡ xs ++ o ∷ [] → losses_of all ≡ losses_of xs ++ is_lost_at o ∷ []
+  pub lost_more : (xs all : List (Option (Peer N g))) (o : Option (Peer N g)) → all ≡ xs ++ o ∷ [] → losses_of all ≡ losses_of xs ++ is_lost_at o ∷ []
   lost_more xs all o is = ap losses_of is ∙ map-append is_lost_at xs (o ∷ [])
 
-  pub lost_count : (xs : List (Option (Post N g))) (fates : List Fate) → map is_some (pages_of xs) ≡ map is_linked fates → length (losses_of xs) ≡ length fates
+  pub lost_count : (xs : List (Option (Peer N g))) (fates : List Fate) → map is_some (pages_of xs) ≡ map is_linked fates → length (losses_of xs) ≡ length fates
   lost_count xs fates seats = omega (arith, map_length is_lost_at xs, map_length page_of xs, map_length is_some (pages_of xs), ap length seats, map_length is_linked fates)
 
   -- where it is said of a link that a send failed, a write to it failed
-  pub fault_lost : (xs : List (Option (Post N g))) (k : ℕ) (p : Page) → slice_get (pages_of xs) k ≡ Some (Some p) → p.known ≡ true → list_any says_send_fault p.said ≡ true → slice_get (losses_of xs) k ≡ Some true
+  pub fault_lost : (xs : List (Option (Peer N g))) (k : ℕ) (p : Page) → slice_get (pages_of xs) k ≡ Some (Some p) → p.known ≡ true → list_any says_send_fault p.said ≡ true → slice_get (losses_of xs) k ≡ Some true
   fault_lost [] k p e known h = absurd (cc e)
   fault_lost (None ∷ xs) zero p e known h = absurd (cc e)
   fault_lost (Some q ∷ xs) zero p e known h = let same : page_by q ≡ p = cc e in ap Some (q.faults (ap (λ (r : Page). r.known) same ∙ known) (ap (λ (r : Page). list_any says_send_fault r.said) same ∙ h))
   fault_lost (o ∷ xs) (suc k) p e known h = fault_lost xs k p e known h
 
-  pub lost_left : (P : Type 0) (xs : List (Option (Post N g))) (k : ℕ) (was : Option (Post N g)) (a : Post N g) → was ≡ get_or xs k was → was ≡ Some a → (a.is_lost ≡ true → P) → slice_get (losses_of xs) k ≡ Some true → P
+  pub lost_left : (P : Type 0) (xs : List (Option (Peer N g))) (k : ℕ) (was : Option (Peer N g)) (a : Peer N g) → was ≡ get_or xs k was → was ≡ Some a → (a.is_lost ≡ true → P) → slice_get (losses_of xs) k ≡ Some true → P
   lost_left P xs k was a at is h e = h (read_lost xs k was a true at is e)
 
-  pub post_count : (xs : List (Option (Post N g))) (n : ℕ) → n ≡ length xs → n ≡ length (pages_of xs)
-  post_count xs n e = e ∙ sym (map_length page_of xs)
+  pub peer_count : (xs : List (Option (Peer N g))) (n : ℕ) → n ≡ length xs → n ≡ length (pages_of xs)
+  peer_count xs n e = e ∙ sym (map_length page_of xs)
 
 -- ---- flags of links
 

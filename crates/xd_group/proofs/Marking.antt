@@ -8,7 +8,8 @@ use Rattle.xd_journal.specs.declared.entry.Entry.TheVariants.{Start}
 use Rattle.xd_journal.specs.declared.news.News.{News}
 use Rattle.xd_drive.specs.Calls.{is_order}
 use Rattle.xd_drive.specs.Listed.{is_kill_of, was_killed}
-use Rattle.xd_drive.specs.Marks.{Marks, is_end, is_ready, marked_heard, marked_started}
+use Rattle.xd_journal.specs.Said.{is_end, is_ready}
+use Rattle.xd_drive.specs.Marks.{Marks, marked_heard, marked_started}
 use Rattle.xd_drive.specs.Performing.{is_start_of, was_started}
 use Rattle.xd_group.specs.Tells.{marks_told}
 use Rattle.xd_group.proofs.Keeping.{order_starts}

@@ -1,4 +1,4 @@
--- The pages of posts.
+-- The pages of peers.
 use Rattle.std.proofs.Common.{◌≡◌, ℕ, zero, suc, ◌≤◌, length, List, [], ◌∷◌, ◌++◌, Option, Some, None, get_or, refl, sym, ◌∙◌, ap}
 use Rattle.std.specs.Prelude.{Bool, true, false, slice_get, slice_set, option_map, option_to_list}
 use Rattle.std.proofs.lemmas.Option.{slice_get-map}
@@ -10,13 +10,14 @@ use Rattle.std.proofs.lemmas.Option.{slice_get_past}
 use Rattle.std.proofs.Math.Logic.{∥∥₁_elim}
 use Rattle.std.specs.List.{list_any}
 use Rattle.xd_edge.specs.declared.mode.ModeKind.{ModeKind}
-use Rattle.xd_drive.specs.Marks.{is_end}
+use Rattle.xd_journal.specs.Said.{is_end}
 use Rattle.xd_note.specs.Noted.{noted}
 use Rattle.xd_reader.specs.declared.news.LinkNews.{LinkNews}
+use Rattle.xd_peer.proofs.PeerFacts.{no_way}
 use Rattle.xd_group.specs.Late.{IsLateAt, late_page}
-use Rattle.xd_group.specs.Pages.{Page, IsHeardAt, IsToldAt, is_nothing, told_page, heard_page}
-use Rattle.xd_group.specs.PostView.{page_by, page_of, pages_of}
-use Rattle.xd_group.specs.declared.post.Post.{Post}
+use Rattle.xd_peer.specs.Pages.{Page, IsHeardAt, IsToldAt, is_nothing, told_page, heard_page}
+use Rattle.xd_peer.specs.PeerView.{page_by, page_of, pages_of}
+use Rattle.xd_peer.specs.declared.peer.Peer.{Peer}
 
 abbrev as_page : List ℕ → ModeKind → List LinkNews → List Entry → List What → List What → Bool → Page
 as_page s m t o w l k = record { suite = s; mode = m; taken = t; told = o; said = w; late = l; known = k }
@@ -27,10 +28,6 @@ same_page s s1 m m1 t t1 o o1 w w1 l l1 k k1 a b c d e f h = rw (a, b, c, d, e, 
 yes : (b : Bool) → (b ≡ false → ⊥) → b ≡ true
 yes true h = refl
 yes false h = absurd (h refl)
-
-pub no_way : (b : Bool) → b ≡ true → b ≡ false → ⊥
-no_way true t f = cc f
-no_way false t f = cc t
 
 not_so : (b : Bool) → (b ≡ true → ⊥) → b ≡ false
 not_so true h = absurd (h refl)
@@ -45,83 +42,83 @@ pub never : (a b : ⊥) → a ≡ b
 never a b = absurd a
 
 module _ {N : Type 0} {g : _} where
-  abbrev page : Post N g → Page
+  abbrev page : Peer N g → Page
   page p = page_by p
 
-  its_page : (xs : List (Option (Post N g))) (k : ℕ) (was : Option (Post N g)) (a : Post N g) (p : Page) → was ≡ get_or xs k was → was ≡ Some a → slice_get (pages_of xs) k ≡ Some (Some p) → p ≡ page a
+  its_page : (xs : List (Option (Peer N g))) (k : ℕ) (was : Option (Peer N g)) (a : Peer N g) (p : Page) → was ≡ get_or xs k was → was ≡ Some a → slice_get (pages_of xs) k ≡ Some (Some p) → p ≡ page a
   its_page xs k was a p at is e =
       let there : slice_get (pages_of xs) k ≡ Some (Some (page a)) = slice_get-map page_of xs k ∙ ap (option_map page_of) (here page_of xs k was (Some p) e at ∙ ap Some is) in
       let both : Some (Some p) ≡ Some (Some (page a)) = sym e ∙ there in cc
 
-  pub post_told : (xs : List (Option (Post N g))) (k : ℕ) (was : Option (Post N g)) (a b : Post N g) (e : Entry) (p : Page) → was ≡ get_or xs k was → was ≡ Some a
+  pub peer_told : (xs : List (Option (Peer N g))) (k : ℕ) (was : Option (Peer N g)) (a b : Peer N g) (e : Entry) (p : Page) → was ≡ get_or xs k was → was ≡ Some a
       → (b.suite ≡ a.suite) × (b.mode ≡ a.mode) × (noted b.taken ≡ noted a.taken) → noted b.told ≡ noted a.told ++ e ∷ [] → (noted b.said ≡ noted a.said) × (noted b.late ≡ noted a.late) → b.is_known ≡ true → slice_get (pages_of xs) k ≡ Some (Some p) → pages_of (slice_set xs k (Some b)) ≡ slice_set (pages_of xs) k (Some (told_page e p))
-  post_told xs k was a b e p at is m o s h there =
+  peer_told xs k was a b e p at is m o s h there =
       map-set page_of xs k (Some b) ∙ ap (λ (q : Page). slice_set (pages_of xs) k (Some q)) (same_page _ _ _ _ _ _ _ _ _ _ _ _ _ _ (ap (λ (x : _). x.value) m.0) m.1 m.2 o s.0 s.1 h ∙ ap (told_page e) (sym (its_page xs k was a p at is there)))
 
-  pub post_heard : (xs : List (Option (Post N g))) (k : ℕ) (was : Option (Post N g)) (a b : Post N g) (item : LinkNews) (what : Option What) (p : Page) → was ≡ get_or xs k was → was ≡ Some a
+  pub peer_heard : (xs : List (Option (Peer N g))) (k : ℕ) (was : Option (Peer N g)) (a b : Peer N g) (item : LinkNews) (what : Option What) (p : Page) → was ≡ get_or xs k was → was ≡ Some a
       → (b.suite ≡ a.suite) × (b.mode ≡ a.mode) × (noted b.told ≡ noted a.told) → noted b.taken ≡ noted a.taken ++ item ∷ [] → noted b.said ≡ noted a.said ++ option_to_list what → noted b.late ≡ noted a.late → b.is_known ≡ true → slice_get (pages_of xs) k ≡ Some (Some p) → pages_of (slice_set xs k (Some b)) ≡ slice_set (pages_of xs) k (Some (heard_page item what p))
-  post_heard xs k was a b item what p at is m t s l h there =
+  peer_heard xs k was a b item what p at is m t s l h there =
       map-set page_of xs k (Some b) ∙ ap (λ (q : Page). slice_set (pages_of xs) k (Some q)) (same_page _ _ _ _ _ _ _ _ _ _ _ _ _ _ (ap (λ (x : _). x.value) m.0) m.1 t m.2 s l h ∙ ap (heard_page item what) (sym (its_page xs k was a p at is there)))
 
-  pub post_page : (xs : List (Option (Post N g))) (k : ℕ) (was : Option (Post N g)) (a : Post N g) → was ≡ Some a → slice_get xs k ≡ Some was → slice_get (pages_of xs) k ≡ Some (Some (page_by a))
-  post_page xs k was a is at = slice_get-map page_of xs k ∙ ap (option_map page_of) (at ∙ ap Some is)
+  pub peer_page : (xs : List (Option (Peer N g))) (k : ℕ) (was : Option (Peer N g)) (a : Peer N g) → was ≡ Some a → slice_get xs k ≡ Some was → slice_get (pages_of xs) k ≡ Some (Some (page_by a))
+  peer_page xs k was a is at = slice_get-map page_of xs k ∙ ap (option_map page_of) (at ∙ ap Some is)
 
-  pub post_gone : (xs : List (Option (Post N g))) (k : ℕ) (o : Option (Post N g)) → o ≡ None → pages_of (slice_set xs k o) ≡ slice_set (pages_of xs) k None
-  post_gone xs k o e = map-set page_of xs k o ∙ ap (λ (q : Option (Post N g)). slice_set (pages_of xs) k (page_of q)) e
+  pub peer_gone : (xs : List (Option (Peer N g))) (k : ℕ) (o : Option (Peer N g)) → o ≡ None → pages_of (slice_set xs k o) ≡ slice_set (pages_of xs) k None
+  peer_gone xs k o e = map-set page_of xs k o ∙ ap (λ (q : Option (Peer N g)). slice_set (pages_of xs) k (page_of q)) e
 
   -- a link that was marked
-  pub post_same : (xs : List (Option (Post N g))) (k : ℕ) (was : Option (Post N g)) (a b : Post N g) → was ≡ get_or xs k was → was ≡ Some a → slice_get xs k ≡ Some was
+  pub peer_same : (xs : List (Option (Peer N g))) (k : ℕ) (was : Option (Peer N g)) (a b : Peer N g) → was ≡ get_or xs k was → was ≡ Some a → slice_get xs k ≡ Some was
       → (b.suite ≡ a.suite) × (b.mode ≡ a.mode) × (noted b.taken ≡ noted a.taken) → noted b.told ≡ noted a.told → (noted b.said ≡ noted a.said) × (noted b.late ≡ noted a.late) → b.is_known ≡ a.is_known → pages_of (slice_set xs k (Some b)) ≡ pages_of xs
-  post_same xs k was a b at is there m o s h =
+  peer_same xs k was a b at is there m o s h =
       map-set page_of xs k (Some b) ∙ (ap (λ (q : Page). slice_set (pages_of xs) k (Some q)) (same_page _ _ _ _ _ _ _ _ _ _ _ _ _ _ (ap (λ (x : _). x.value) m.0) m.1 m.2 o s.0 s.1 h) ∙ set_same (pages_of xs) k (Some (page a)) (slice_get-map page_of xs k ∙ ap (option_map page_of) (there ∙ ap Some is)))
 
-  past_page : (xs : List (Option (Post N g))) (k : ℕ) (p : Page) → length xs ≤ k → slice_get (pages_of xs) k ≡ Some (Some p) → ⊥
+  past_page : (xs : List (Option (Peer N g))) (k : ℕ) (p : Page) → length xs ≤ k → slice_get (pages_of xs) k ≡ Some (Some p) → ⊥
   past_page xs k p l e = let none : slice_get (pages_of xs) k ≡ None = slice_get-map page_of xs k ∙ ap (option_map page_of) (slice_get_past xs k l) in let both : None ≡ Some (Some p) = sym none ∙ e in cc both
 
-  pub past_told : (xs : List (Option (Post N g))) (k : ℕ) → length xs ≤ k → ∥ IsToldAt (pages_of xs) k ∥₁ → ⊥
+  pub past_told : (xs : List (Option (Peer N g))) (k : ℕ) → length xs ≤ k → ∥ IsToldAt (pages_of xs) k ∥₁ → ⊥
   past_told xs k l t = ∥∥₁_elim t never (λ x. past_page xs k x.page l x.at)
 
-  pub past_heard : (xs : List (Option (Post N g))) (k : ℕ) → length xs ≤ k → ∥ IsHeardAt (pages_of xs) k ∥₁ → ⊥
+  pub past_heard : (xs : List (Option (Peer N g))) (k : ℕ) → length xs ≤ k → ∥ IsHeardAt (pages_of xs) k ∥₁ → ⊥
   past_heard xs k l t = ∥∥₁_elim t never (λ x. past_page xs k x.page l x.at)
 
-  no_page : (xs : List (Option (Post N g))) (k : ℕ) (was : Option (Post N g)) (p : Page) → was ≡ get_or xs k was → was ≡ None → slice_get (pages_of xs) k ≡ Some (Some p) → ⊥
+  no_page : (xs : List (Option (Peer N g))) (k : ℕ) (was : Option (Peer N g)) (p : Page) → was ≡ get_or xs k was → was ≡ None → slice_get (pages_of xs) k ≡ Some (Some p) → ⊥
   no_page xs k was p at is e =
       let there : slice_get (pages_of xs) k ≡ Some None = slice_get-map page_of xs k ∙ ap (option_map page_of) (here page_of xs k was (Some p) e at ∙ ap Some is) in
       let both : Some None ≡ Some (Some p) = sym there ∙ e in cc both
 
-  pub none_told : (xs : List (Option (Post N g))) (k : ℕ) (was : Option (Post N g)) → was ≡ get_or xs k was → was ≡ None → ∥ IsToldAt (pages_of xs) k ∥₁ → ⊥
+  pub none_told : (xs : List (Option (Peer N g))) (k : ℕ) (was : Option (Peer N g)) → was ≡ get_or xs k was → was ≡ None → ∥ IsToldAt (pages_of xs) k ∥₁ → ⊥
   none_told xs k was at is t = ∥∥₁_elim t never (λ x. no_page xs k was x.page at is x.at)
 
-  pub none_heard : (xs : List (Option (Post N g))) (k : ℕ) (was : Option (Post N g)) → was ≡ get_or xs k was → was ≡ None → ∥ IsHeardAt (pages_of xs) k ∥₁ → ⊥
+  pub none_heard : (xs : List (Option (Peer N g))) (k : ℕ) (was : Option (Peer N g)) → was ≡ get_or xs k was → was ≡ None → ∥ IsHeardAt (pages_of xs) k ∥₁ → ⊥
   none_heard xs k was at is t = ∥∥₁_elim t never (λ x. no_page xs k was x.page at is x.at)
 
-  pub told_post : (xs : List (Option (Post N g))) (k : ℕ) (was : Option (Post N g)) (a : Post N g) → was ≡ get_or xs k was → was ≡ Some a → ∥ IsToldAt (pages_of xs) k ∥₁ → (a.is_known ≡ true) × (is_nothing (noted a.late) ≡ true) × (list_any is_end (noted a.said) ≡ false)
-  told_post xs k was a at is t = (
+  pub told_peer : (xs : List (Option (Peer N g))) (k : ℕ) (was : Option (Peer N g)) (a : Peer N g) → was ≡ get_or xs k was → was ≡ Some a → ∥ IsToldAt (pages_of xs) k ∥₁ → (a.is_known ≡ true) × (is_nothing (noted a.late) ≡ true) × (list_any is_end (noted a.said) ≡ false)
+  told_peer xs k was a at is t = (
     yes a.is_known (λ f. ∥∥₁_elim t never (λ x. no_way a.is_known (sym (ap (λ (q : Page). q.known) (its_page xs k was a x.page at is x.at)) ∙ x.known) f)),
     yes (is_nothing (noted a.late)) (λ f. ∥∥₁_elim t never (λ x. no_way (is_nothing (noted a.late)) (sym (ap (λ (q : Page). is_nothing q.late) (its_page xs k was a x.page at is x.at)) ∙ x.on_time) f)),
     not_so (list_any is_end (noted a.said)) (λ f. ∥∥₁_elim t never (λ x. no_way (list_any is_end (noted a.said)) f (sym (ap (λ (q : Page). list_any is_end q.said) (its_page xs k was a x.page at is x.at)) ∙ x.going))),
   )
 
-  pub heard_post : (xs : List (Option (Post N g))) (k : ℕ) (was : Option (Post N g)) (a : Post N g) → was ≡ get_or xs k was → was ≡ Some a → ∥ IsHeardAt (pages_of xs) k ∥₁ → (a.is_known ≡ true) × (is_nothing (noted a.late) ≡ true)
-  heard_post xs k was a at is t = (
+  pub heard_peer : (xs : List (Option (Peer N g))) (k : ℕ) (was : Option (Peer N g)) (a : Peer N g) → was ≡ get_or xs k was → was ≡ Some a → ∥ IsHeardAt (pages_of xs) k ∥₁ → (a.is_known ≡ true) × (is_nothing (noted a.late) ≡ true)
+  heard_peer xs k was a at is t = (
     yes a.is_known (λ f. ∥∥₁_elim t never (λ x. no_way a.is_known (sym (ap (λ (q : Page). q.known) (its_page xs k was a x.page at is x.at)) ∙ x.known) f)),
     yes (is_nothing (noted a.late)) (λ f. ∥∥₁_elim t never (λ x. no_way (is_nothing (noted a.late)) (sym (ap (λ (q : Page). is_nothing q.late) (its_page xs k was a x.page at is x.at)) ∙ x.on_time) f)),
   )
 
-  pub post_late : (xs : List (Option (Post N g))) (k : ℕ) (was : Option (Post N g)) (a b : Post N g) (item : LinkNews) (p : Page) → was ≡ get_or xs k was → was ≡ Some a
+  pub peer_late : (xs : List (Option (Peer N g))) (k : ℕ) (was : Option (Peer N g)) (a b : Peer N g) (item : LinkNews) (p : Page) → was ≡ get_or xs k was → was ≡ Some a
       → (b.suite ≡ a.suite) × (b.mode ≡ a.mode) × (noted b.told ≡ noted a.told) → noted b.taken ≡ noted a.taken ++ item ∷ [] → noted b.said ≡ noted a.said → b.is_known ≡ true → slice_get (pages_of xs) k ≡ Some (Some p)
       → pages_of (slice_set xs k (Some b)) ≡ slice_set (pages_of xs) k (Some (late_page item (noted b.late) p))
-  post_late xs k was a b item p at is m t s h there =
+  peer_late xs k was a b item p at is m t s h there =
       map-set page_of xs k (Some b) ∙ ap (λ (q : Page). slice_set (pages_of xs) k (Some q)) (same_page _ _ _ _ _ _ _ _ _ _ _ _ _ _ (ap (λ (x : _). x.value) m.0) m.1 t m.2 s refl h ∙ ap (late_page item (noted b.late)) (sym (its_page xs k was a p at is there)))
 
-  pub past_late : (xs : List (Option (Post N g))) (k : ℕ) → length xs ≤ k → ∥ IsLateAt (pages_of xs) k ∥₁ → ⊥
+  pub past_late : (xs : List (Option (Peer N g))) (k : ℕ) → length xs ≤ k → ∥ IsLateAt (pages_of xs) k ∥₁ → ⊥
   past_late xs k l t = ∥∥₁_elim t never (λ x. past_page xs k x.page l x.at)
 
-  pub none_late : (xs : List (Option (Post N g))) (k : ℕ) (was : Option (Post N g)) → was ≡ get_or xs k was → was ≡ None → ∥ IsLateAt (pages_of xs) k ∥₁ → ⊥
+  pub none_late : (xs : List (Option (Peer N g))) (k : ℕ) (was : Option (Peer N g)) → was ≡ get_or xs k was → was ≡ None → ∥ IsLateAt (pages_of xs) k ∥₁ → ⊥
   none_late xs k was at is t = ∥∥₁_elim t never (λ x. no_page xs k was x.page at is x.at)
 
-  pub late_post : (xs : List (Option (Post N g))) (k : ℕ) (was : Option (Post N g)) (a : Post N g) → was ≡ get_or xs k was → was ≡ Some a → ∥ IsLateAt (pages_of xs) k ∥₁ → a.is_known ≡ true
-  late_post xs k was a at is t = yes a.is_known (λ f. ∥∥₁_elim t never (λ x. no_way a.is_known (sym (ap (λ (q : Page). q.known) (its_page xs k was a x.page at is x.at)) ∙ x.known) f))
+  pub late_peer : (xs : List (Option (Peer N g))) (k : ℕ) (was : Option (Peer N g)) (a : Peer N g) → was ≡ get_or xs k was → was ≡ Some a → ∥ IsLateAt (pages_of xs) k ∥₁ → a.is_known ≡ true
+  late_peer xs k was a at is t = yes a.is_known (λ f. ∥∥₁_elim t never (λ x. no_way a.is_known (sym (ap (λ (q : Page). q.known) (its_page xs k was a x.page at is x.at)) ∙ x.known) f))
 
 pub none_of : {X : Type 0} (o : Option X) → ((x : X) → o ≡ Some x → ⊥) → o ≡ None
 none_of None h = refl

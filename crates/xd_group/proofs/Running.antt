@@ -1,4 +1,4 @@
--- The run of a link that ended, from what its reader put and what its post kept.
+-- The run of a link that ended, from what its reader put and what its peer kept.
 use Rattle.std.proofs.Common.{◌≡◌, ◌<◌, ℕ, zero, suc, List, [], ◌∷◌, ◌++◌, length, take, map, Bool, true, false, Option, Some, None, refl, sym, ◌∙◌, ap, subst, arith, inl, inr, append_assoc}
 use Rattle.std.specs.Prelude.{◌||◌, IfSome, MatchBool}
 use Rattle.xd_edge.specs.Sink.{Sunk}
@@ -14,16 +14,16 @@ use Rattle.xd_reader.specs.declared.news.LinkStop.TheVariants as stop
 use Rattle.xd_link.specs.Spring.{Spring}
 use Rattle.xd_reader.specs.Reads.{StopsAt}
 use Rattle.xd_remote.specs.News.{all_messages, all_news}
-use Rattle.xd_group.specs.ToLink.{has_left, to_link}
-use Rattle.xd_group.specs.Sent.{EndsWhole, HandedOn, SentAs}
-use Rattle.xd_group.specs.Heard.{is_of_link, of_link}
+use Rattle.xd_peer.specs.ToLink.{has_left, to_link}
+use Rattle.xd_peer.specs.Sent.{EndsWhole, HandedOn, SentAs}
+use Rattle.xd_peer.specs.Heard.{is_of_link, of_link}
 use Rattle.std.proofs.lemmas.List.Elements.{filter-append}
-use Rattle.xd_group.specs.Ends.{EndsSo}
-use Rattle.xd_group.specs.Heard.{HeardSo, cause_by, is_send_fault, plain_cause}
-use Rattle.xd_group.specs.LinkRun.{IsGone, LinkRun, link_of, ReadToStop, SentAll, SentPart, SentSo, is_garbled}
-use Rattle.xd_group.specs.Pages.{Page}
+use Rattle.xd_peer.specs.Ends.{EndsSo}
+use Rattle.xd_peer.specs.Heard.{HeardSo, cause_by, is_send_fault, plain_cause}
+use Rattle.xd_peer.specs.LinkRun.{IsGone, LinkRun, link_of, ReadToStop, SentAll, SentPart, SentSo, is_garbled}
+use Rattle.xd_peer.specs.Pages.{Page}
 use Rattle.xd_remote.specs.declared.gateway.Gateway.{Gateway}
-use Rattle.xd_group.proofs.PostFacts.{fault_is}
+use Rattle.xd_peer.proofs.PeerFacts.{fault_is}
 
 -- messages and then an end come apart in one way
 apart : (put ms : List MessageView) (why done : LinkStop) (rest : List LinkNews) → map Message put ++ End done ∷ [] ≡ map Message ms ++ End why ∷ rest → (put ≡ ms) × (done ≡ why)
@@ -113,7 +113,7 @@ or_true true = refl
 or_true false = refl
 
 module _ {K : Type 0} where
-  -- a post that is known to have ended
+  -- a peer that is known to have ended
   pub ends_so : (g : Gateway K) (p : Page) (ended lost closed : Bool) (sunk : Option Sunk) (writes : ℕ) → ended ≡ true → closed ≡ (has_left p.said || ended) → HeardSo g ended lost p.taken (p.said ++ p.late) → SentAs lost closed sunk writes (to_link p.suite p.mode p.told p.said) → EndsWhole (p.said ++ p.late) (to_link p.suite p.mode p.told p.said) sunk
       → EndsSo p sunk writes
   ends_so g p false lost closed sunk writes e c h s w = absurd (cc e)

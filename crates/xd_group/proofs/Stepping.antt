@@ -12,10 +12,10 @@ use Rattle.xd_link.specs.declared.place.Place.{Place}
 use Rattle.xd_link.specs.declared.starter.StartRun.{StartRun}
 use Rattle.xd_drive.specs.Listed.{starts_of}
 use Rattle.xd_drive.specs.Performing.{is_start}
-use Rattle.xd_group.specs.Children.{AskedOfLink, TellsLinks, ToldByStarter, children_asked, all_buried, link_asked, told_of, cut_by, fresh_child, killed_child, starts_told}
+use Rattle.xd_starts.specs.Children.{AskedOfLink, TellsLinks, ToldByStarter, children_asked, all_buried, link_asked, told_of, cut_by, fresh_child, killed_child, starts_told}
 use Rattle.xd_group.specs.Fates.{has_link}
 use Rattle.xd_group.specs.InStep.{ChildrenInStep, all_started, start_told}
-use Rattle.xd_group.specs.declared.child.Child.{Child}
+use Rattle.xd_starts.specs.declared.child.Child.{Child}
 use Rattle.xd_group.specs.declared.fate.Fate.{Fate}
 use Rattle.xd_group.proofs.FateFacts.{changed_linked}
 

@@ -8,21 +8,21 @@ use Rattle.xd_links.specs.Runs.{news_of}
 use Rattle.xd_note.specs.Noted.{noted}
 use Rattle.xd_post.specs.Post.{Ring}
 use Rattle.xd_reader.specs.declared.news.LinkNews.{LinkNews}
-use Rattle.xd_group.specs.Children.{children_asked}
+use Rattle.xd_starts.specs.Children.{children_asked}
 use Rattle.xd_group.specs.Fates.{EndedFrom, KeptFrom, has_link, is_refused, workers_with}
-use Rattle.xd_group.specs.Heard.{says_send_fault}
+use Rattle.xd_peer.specs.Heard.{says_send_fault}
 use Rattle.xd_group.specs.Kept.{Kept, said_of_worker}
 use Rattle.xd_group.specs.Kills.{EndKilledSo, KilledSo}
 use Rattle.xd_group.specs.Late.{Late, settled_at}
-use Rattle.xd_group.specs.LinkRun.{link_of}
-use Rattle.xd_group.specs.Pages.{Page}
-use Rattle.xd_group.specs.PostView.{ends_of, losses_of, pages_of}
+use Rattle.xd_peer.specs.LinkRun.{link_of}
+use Rattle.xd_peer.specs.Pages.{Page}
+use Rattle.xd_peer.specs.PeerView.{ends_of, losses_of, pages_of}
 use Rattle.xd_group.specs.Returned.{RanSo, end_told}
-use Rattle.xd_group.specs.declared.child.Child.{Child}
+use Rattle.xd_starts.specs.declared.child.Child.{Child}
 use Rattle.xd_group.specs.declared.diary.Diary.{Diary}
 use Rattle.xd_group.specs.declared.fate.Fate.TheVariants.{Linked}
 use Rattle.xd_group.specs.declared.finish.LinkEnd.{LinkEnd}
-use Rattle.xd_group.specs.declared.post.Post.{Post}
+use Rattle.xd_peer.specs.declared.peer.Peer.{Peer}
 
 -- what a hub had when it began to end its links: the suite and the mode, what was taken of each link, the pages of the
 -- links, and to which of them a write had failed
@@ -44,13 +44,13 @@ pub record LinksLeft : Type 0 where
 
 module _ {N : Type 0} {g : _} where
   -- what a hub had that began to end these links
-  abbrev pub began_with : List ℕ → ModeKind → List (Option (Ring × List LinkNews)) → List (Option (Post N g)) → Began
-  began_with suite mode mails posts = record { suite = suite; mode = mode; taken = news_of mails; pages = pages_of posts; lost = losses_of posts }
+  abbrev pub began_with : List ℕ → ModeKind → List (Option (Ring × List LinkNews)) → List (Option (Peer N g)) → Began
+  began_with suite mode mails peers = record { suite = suite; mode = mode; taken = news_of mails; pages = pages_of peers; lost = losses_of peers }
 
 module _ {N X : Type 0} {g : _} where
   -- what is left of these links
-  abbrev pub links_left : List (Option (Ring × List LinkNews)) → List (Option (Post N g)) → List (Option X) → LinksLeft
-  links_left mails posts spares = record { taken = news_of mails; pages = pages_of posts; kept = map is_some spares; ended = ends_of posts; lost = losses_of posts }
+  abbrev pub links_left : List (Option (Ring × List LinkNews)) → List (Option (Peer N g)) → List (Option X) → LinksLeft
+  links_left mails peers spares = record { taken = news_of mails; pages = pages_of peers; kept = map is_some spares; ended = ends_of peers; lost = losses_of peers }
 
 -- A hub that began so has ended the links of the starts before this number. From it on each link that is read is still
 -- there, and nothing more is to come of it; each that is not read is kept.

@@ -6,7 +6,7 @@ use Rattle.xd_link.specs.declared.place.Place.{Place}
 use Rattle.xd_link.specs.declared.starter.StartRun.{StartRun}
 use Rattle.xd_drive.specs.Listed.{starts_of}
 use Rattle.xd_group.specs.Fates.{has_link}
-use Rattle.xd_group.specs.declared.child.Child.{Child}
+use Rattle.xd_starts.specs.declared.child.Child.{Child}
 use Rattle.xd_group.specs.declared.fate.Fate.{Fate}
 
 -- the start of a link at the place of a slot

@@ -7,9 +7,9 @@ use Rattle.xd_journal.specs.declared.news.News.{News}
 use Rattle.xd_journal.specs.declared.news.What.{What}
 use Rattle.xd_reader.specs.declared.news.LinkNews.{LinkNews}
 use Rattle.xd_drive.specs.Calls.{is_order}
-use Rattle.xd_drive.specs.Marks.{is_ready}
+use Rattle.xd_journal.specs.Said.{is_ready}
 use Rattle.xd_drive.specs.Performing.{was_started}
-use Rattle.xd_group.specs.Pages.{Page, is_nothing, taken_of_link}
+use Rattle.xd_peer.specs.Pages.{Page, is_nothing, taken_of_link}
 
 -- what was said of the worker
 abbrev pub said_of_worker : ℕ → List News → List What

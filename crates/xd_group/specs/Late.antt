@@ -4,8 +4,8 @@ use Rattle.xd_edge.specs.declared.mode.ModeKind.{ModeKind}
 use Rattle.xd_journal.specs.declared.entry.Entry.{Entry}
 use Rattle.xd_journal.specs.declared.news.What.{What}
 use Rattle.xd_reader.specs.declared.news.LinkNews.{LinkNews}
-use Rattle.xd_group.specs.LinkRun.{Link, LinkRun}
-use Rattle.xd_group.specs.Pages.{Page, taken_of_link}
+use Rattle.xd_peer.specs.LinkRun.{Link, LinkRun}
+use Rattle.xd_peer.specs.Pages.{Page, taken_of_link}
 
 -- what stays of a page
 pub record Settled : Type 0 where

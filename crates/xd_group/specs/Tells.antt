@@ -5,7 +5,8 @@ use Rattle.xd_journal.specs.declared.entry.Entry.{Entry}
 use Rattle.xd_journal.specs.declared.entry.Entry.TheVariants.{Start}
 use Rattle.xd_journal.specs.declared.news.News.{News}
 use Rattle.xd_drive.specs.Listed.{was_killed}
-use Rattle.xd_drive.specs.Marks.{Marks, is_ready, is_end}
+use Rattle.xd_journal.specs.Said.{is_ready, is_end}
+use Rattle.xd_drive.specs.Marks.{Marks}
 use Rattle.xd_drive.specs.Performing.{was_started}
 
 -- the marks of the worker, by the calls, the starts among them, and the news that were given

@@ -3,7 +3,7 @@ use Rattle.std.specs.Prelude.{◌≡◌, ◌⊎◌, ◌<◌, ℕ, Bool, true, fa
 use Rattle.xd_journal.specs.declared.news.News.{News}
 use Rattle.xd_journal.specs.declared.news.What.TheVariants.{NotStarted}
 use Rattle.xd_group.specs.Kept.{said_of_worker}
-use Rattle.xd_group.specs.Pages.{Page}
+use Rattle.xd_peer.specs.Pages.{Page}
 
 -- nothing, or that the worker was not started
 abbrev pub SaidUnlinked : List News → ℕ → Type 0

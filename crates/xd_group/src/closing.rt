@@ -2,14 +2,14 @@
 
 use crate::fate::Fate;
 use crate::group::Group;
-use crate::post::Post;
-use crate::posts::{have_ended, hear_late_at, leave_at};
+use crate::peers::{have_ended, hear_late_at, leave_at};
 use crate::spare::{Spare, take_kept};
 use std::sync::Wait;
 use xd_crew::Crew;
 use xd_edge::{OutOfMemory, Sink};
 use xd_link::Source;
 use xd_links::Links;
+use xd_peer::Peer;
 use xd_reader::Reader;
 
 /// A link that was closed.
@@ -28,13 +28,13 @@ impl<S: Source + Drop, N: Sink + Drop, C: Crew<Reader<S>>> Group<S, N, C> {
     ghost use Rattle.xd_group.specs.Ending.{Began, Ending, began_with, links_left};
     ghost use Rattle.xd_group.specs.Fates.{has_link, is_refused, workers_with};
     ghost use Rattle.xd_group.specs.Returned.{RanSo};
-    ghost use Rattle.xd_group.specs.PostView.{pages_of, ends_of, has_ended, losses_of};
+    ghost use Rattle.xd_peer.specs.PeerView.{pages_of, ends_of, has_ended, losses_of};
     ghost use Rattle.xd_group.specs.declared.fate.Fate.{Fate};
     ghost use Rattle.xd_group.specs.declared.fate.Fate.TheVariants.{Linked};
     ghost use Rattle.xd_group.specs.Unused.{Unused};
     ghost use Rattle.xd_group.specs.Late.{Late, RanAt, Settled};
     ghost use Rattle.xd_group.specs.Kills.{KeepsLost};
-    ghost use Rattle.xd_group.specs.LinkRun.{link_of};
+    ghost use Rattle.xd_peer.specs.LinkRun.{link_of};
     ghost use Rattle.xd_link.specs.Spring.{spring};
     ghost use Rattle.std.specs.List.{list_all};
 
@@ -42,22 +42,22 @@ impl<S: Source + Drop, N: Sink + Drop, C: Crew<Reader<S>>> Group<S, N, C> {
     fn take_late<R: Wait>(
         rt: &R,
         links: &mut Links<S, C>,
-        posts: &mut Vec<Option<Post<N>>>,
+        peers: &mut Vec<Option<Peer<N>>>,
     ) -> Result<(), OutOfMemory>
         requires late { (first : List (Option Settled))
-            × ∥ Late first (news_of (mails links.old.desk)) (pages_of posts.old.items) ∥₁ }
+            × ∥ Late first (news_of (mails links.old.desk)) (pages_of peers.old.items) ∥₁ }
         ensures late { (first : List (Option Settled)) →
-            ∥ Late first (news_of (mails links.old.desk)) (pages_of posts.old.items) ∥₁
+            ∥ Late first (news_of (mails links.old.desk)) (pages_of peers.old.items) ∥₁
             → OnOk result (∥ Late first (news_of (mails links.new.desk))
-            (pages_of posts.new.items) ∥₁) }
+            (pages_of peers.new.items) ∥₁) }
         ensures seats { OnOk result
-            (map is_some (pages_of posts.new.items) ≡ map is_some (pages_of posts.old.items)) }
+            (map is_some (pages_of peers.new.items) ≡ map is_some (pages_of peers.old.items)) }
         ensures keeps { OnOk result
-            (KeepsLost (losses_of posts.old.items) (losses_of posts.new.items)) }
+            (KeepsLost (losses_of peers.old.items) (losses_of peers.new.items)) }
         ensures crew { links.new.crew ≡ links.old.crew }
     {
         let (number, item) = links.next(rt);
-        hear_late_at(posts, number as usize, item)?;
+        hear_late_at(peers, number as usize, item)?;
         Ok(())
     }
 
@@ -65,26 +65,26 @@ impl<S: Source + Drop, N: Sink + Drop, C: Crew<Reader<S>>> Group<S, N, C> {
     fn drain<R: Wait>(
         rt: &R,
         links: &mut Links<S, C>,
-        posts: &mut Vec<Option<Post<N>>>,
+        peers: &mut Vec<Option<Peer<N>>>,
     ) -> Result<(), OutOfMemory>
         requires late { (first : List (Option Settled))
-            × ∥ Late first (news_of (mails links.old.desk)) (pages_of posts.old.items) ∥₁ }
+            × ∥ Late first (news_of (mails links.old.desk)) (pages_of peers.old.items) ∥₁ }
         ensures late { (first : List (Option Settled)) →
-            ∥ Late first (news_of (mails links.old.desk)) (pages_of posts.old.items) ∥₁
+            ∥ Late first (news_of (mails links.old.desk)) (pages_of peers.old.items) ∥₁
             → OnOk result (∥ Late first (news_of (mails links.new.desk))
-            (pages_of posts.new.items) ∥₁) }
-        ensures ended { OnOk result (list_all has_ended posts.new.items ≡ true) }
+            (pages_of peers.new.items) ∥₁) }
+        ensures ended { OnOk result (list_all has_ended peers.new.items ≡ true) }
         ensures seats { OnOk result
-            (map is_some (pages_of posts.new.items) ≡ map is_some (pages_of posts.old.items)) }
+            (map is_some (pages_of peers.new.items) ≡ map is_some (pages_of peers.old.items)) }
         ensures keeps { OnOk result
-            (KeepsLost (losses_of posts.old.items) (losses_of posts.new.items)) }
+            (KeepsLost (losses_of peers.old.items) (losses_of peers.new.items)) }
         ensures crew { links.new.crew ≡ links.old.crew }
     {
         for _ in rt.forever() {
-            if have_ended(posts) {
+            if have_ended(peers) {
                 return Ok(());
             }
-            Self::take_late(rt, links, posts)?;
+            Self::take_late(rt, links, peers)?;
         }
         unreachable!()
     }
@@ -93,8 +93,8 @@ impl<S: Source + Drop, N: Sink + Drop, C: Crew<Reader<S>>> Group<S, N, C> {
     pub fn settle<R: Wait>(&mut self, rt: &R) -> Result<(), OutOfMemory>
         ensures ending { OnOk result (Ending 0
             (began_with self.old.suite self.old.mode (mails self.old.links.desk)
-            self.old.posts.items) self.old.diary
-            (links_left (mails self.new.links.desk) self.new.posts.items self.new.spares.items)) }
+            self.old.peers.items) self.old.diary
+            (links_left (mails self.new.links.desk) self.new.peers.items self.new.spares.items)) }
         ensures crew { (self.new.links.crew ≡ self.old.links.crew)
             × (self.new.first ≡ self.old.first) }
         ensures whole { OnOk result (self.old.is_whole ≡ true) }
@@ -105,39 +105,39 @@ impl<S: Source + Drop, N: Sink + Drop, C: Crew<Reader<S>>> Group<S, N, C> {
             return Err(OutOfMemory);
         }
         self.is_whole = false;
-        Self::drain(rt, &mut self.links, &mut self.posts)?;
+        Self::drain(rt, &mut self.links, &mut self.peers)?;
         Ok(())
     }
 
     // Closes a link of which nothing more is to come.
     fn close(
         links: &mut Links<S, C>,
-        posts: &mut Vec<Option<Post<N>>>,
+        peers: &mut Vec<Option<Peer<N>>>,
         number: u32,
         worker: u32,
     ) -> Ended<S, N>
         requires late { (first : List (Option Settled))
-            × ∥ Late first (news_of (mails links.old.desk)) (pages_of posts.old.items) ∥₁ }
-        requires ended { slice_get (ends_of posts.old.items) number ≡ Some true }
+            × ∥ Late first (news_of (mails links.old.desk)) (pages_of peers.old.items) ∥₁ }
+        requires ended { slice_get (ends_of peers.old.items) number ≡ Some true }
         ensures ran { (first : List (Option Settled)) →
-            ∥ Late first (news_of (mails links.old.desk)) (pages_of posts.old.items) ∥₁
+            ∥ Late first (news_of (mails links.old.desk)) (pages_of peers.old.items) ∥₁
             → ∥ RanAt first number (link_of
             (spring (S.supply result.source) (S.is_ended result.source)
             (S.faults result.source)) (N.sunk result.sink) (N.faults result.sink)) ∥₁ }
         ensures late { (first : List (Option Settled)) →
-            ∥ Late first (news_of (mails links.old.desk)) (pages_of posts.old.items) ∥₁
-            → ∥ Late first (news_of (mails links.new.desk)) (pages_of posts.new.items) ∥₁ }
-        ensures lost { slice_get (losses_of posts.old.items) number ≡ Some true →
+            ∥ Late first (news_of (mails links.old.desk)) (pages_of peers.old.items) ∥₁
+            → ∥ Late first (news_of (mails links.new.desk)) (pages_of peers.new.items) ∥₁ }
+        ensures lost { slice_get (losses_of peers.old.items) number ≡ Some true →
             0 < N.faults result.sink }
         ensures others { ((k : ℕ) → number < k →
-            slice_get (losses_of posts.old.items) k ≡ Some true →
-            slice_get (losses_of posts.new.items) k ≡ Some true)
-            × ((k : ℕ) → number < k → slice_get (ends_of posts.old.items) k ≡ Some true →
-            slice_get (ends_of posts.new.items) k ≡ Some true) }
+            slice_get (losses_of peers.old.items) k ≡ Some true →
+            slice_get (losses_of peers.new.items) k ≡ Some true)
+            × ((k : ℕ) → number < k → slice_get (ends_of peers.old.items) k ≡ Some true →
+            slice_get (ends_of peers.new.items) k ≡ Some true) }
         ensures crew { C.faults links.new.crew ≡ C.faults links.old.crew }
         ensures worker { result.worker ≡ worker }
     {
-        let sink = leave_at(posts, number as usize);
+        let sink = leave_at(peers, number as usize);
         let source = links.close(number);
         Ended {
             worker,
@@ -170,13 +170,13 @@ impl<S: Source + Drop, N: Sink + Drop, C: Crew<Reader<S>>> Group<S, N, C> {
         requires over { self.old.is_whole ≡ false }
         requires there { number < length self.old.diary.workers.items }
         requires ending { (b : Began) × Ending number b self.old.diary
-            (links_left (mails self.old.links.desk) self.old.posts.items self.old.spares.items) }
+            (links_left (mails self.old.links.desk) self.old.peers.items self.old.spares.items) }
         ensures ending { (b : Began) → Ending number b self.old.diary
-            (links_left (mails self.old.links.desk) self.old.posts.items self.old.spares.items)
+            (links_left (mails self.old.links.desk) self.old.peers.items self.old.spares.items)
             → Ending (number + 1) b self.old.diary
-            (links_left (mails self.new.links.desk) self.new.posts.items self.new.spares.items) }
+            (links_left (mails self.new.links.desk) self.new.peers.items self.new.spares.items) }
         ensures runs { (b : Began) → Ending number b self.old.diary
-            (links_left (mails self.old.links.desk) self.old.posts.items self.old.spares.items)
+            (links_left (mails self.old.links.desk) self.old.peers.items self.old.spares.items)
             → IfSome result (λ e. ∥ RanSo b.suite b.mode (noted self.old.diary.given)
             (noted self.old.diary.calls)
             (workers_with is_refused self.old.diary.workers.items self.old.diary.fates.items)
@@ -187,7 +187,7 @@ impl<S: Source + Drop, N: Sink + Drop, C: Crew<Reader<S>>> Group<S, N, C> {
         ensures worker { IfSome result (λ e.
             slice_get self.old.diary.workers.items number ≡ Some e.worker) }
         ensures lost { slice_get self.old.diary.fates.items number ≡ Some Linked →
-            IfSome result (λ e. slice_get (losses_of self.old.posts.items) number ≡ Some true →
+            IfSome result (λ e. slice_get (losses_of self.old.peers.items) number ≡ Some true →
             0 < N.faults e.sink) }
         ensures crew { (C.faults self.new.links.crew ≡ C.faults self.old.links.crew)
             × (self.new.first ≡ self.old.first) }
@@ -205,7 +205,7 @@ impl<S: Source + Drop, N: Sink + Drop, C: Crew<Reader<S>>> Group<S, N, C> {
                 Some(kept)
             }
             Fate::Linked => {
-                let closed = Self::close(&mut self.links, &mut self.posts, number, worker);
+                let closed = Self::close(&mut self.links, &mut self.peers, number, worker);
                 Some(closed)
             }
         }

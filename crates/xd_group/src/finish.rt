@@ -25,13 +25,13 @@ impl<St: Starter, C: Crew<Reader<St::Src>>> GatewayHub<St, C> {
     ghost use Rattle.xd_post.specs.Mails.{mails};
     ghost use Rattle.xd_note.specs.Noted.{noted};
     ghost use Rattle.xd_drive.specs.Listed.{is_listed, starts_of};
-    ghost use Rattle.xd_group.specs.Children.{link_asked, starts_told, told_of};
+    ghost use Rattle.xd_starts.specs.Children.{link_asked, starts_told, told_of};
     ghost use Rattle.xd_group.specs.Ending.{AreEnded, Began, Ending, links_left};
     ghost use Rattle.xd_group.specs.Fates.{has_link, is_linked, is_refused, is_unlinked, workers_with};
     ghost use Rattle.xd_group.specs.Few.{RoseFor, count_with};
     ghost use Rattle.xd_group.specs.InStep.{all_started};
     ghost use Rattle.xd_group.specs.Kills.{EndKilledSo};
-    ghost use Rattle.xd_group.specs.LinkRun.{link_of};
+    ghost use Rattle.xd_peer.specs.LinkRun.{link_of};
     ghost use Rattle.xd_group.specs.Returned.{RanSo, end_told};
     ghost use Rattle.xd_group.specs.Tells.{workers_started};
     ghost use Rattle.xd_group.specs.Unsaid.{SaidUnlinked};
@@ -46,16 +46,16 @@ impl<St: Starter, C: Crew<Reader<St::Src>>> GatewayHub<St, C> {
         requires over { self.old.group.is_whole ≡ false }
         requires there { number < length self.old.group.diary.workers.items }
         requires ending { (b : Began) × Ending number b self.old.group.diary
-            (links_left (mails self.old.group.links.desk) self.old.group.posts.items
+            (links_left (mails self.old.group.links.desk) self.old.group.peers.items
             self.old.group.spares.items) }
         ensures ending { (b : Began) → Ending number b self.old.group.diary
-            (links_left (mails self.old.group.links.desk) self.old.group.posts.items
+            (links_left (mails self.old.group.links.desk) self.old.group.peers.items
             self.old.group.spares.items)
             → Ending (number + 1) b self.old.group.diary
-            (links_left (mails self.new.group.links.desk) self.new.group.posts.items
+            (links_left (mails self.new.group.links.desk) self.new.group.peers.items
             self.new.group.spares.items) }
         ensures ended { (b : Began) → Ending number b self.old.group.diary
-            (links_left (mails self.old.group.links.desk) self.old.group.posts.items
+            (links_left (mails self.old.group.links.desk) self.old.group.peers.items
             self.old.group.spares.items)
             → AreEnded (λ s. spring (St.Src.supply s) (St.Src.is_ended s) (St.Src.faults s))
             St.Snk.sunk St.Snk.faults number b self.old.group.diary

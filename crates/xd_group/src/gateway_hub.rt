@@ -5,18 +5,18 @@ ghost use Rattle.std.specs.List.{list_all};
 ghost use Rattle.xd_journal.specs.declared.entry.Entry.TheVariants.{Start, Kill};
 ghost use Rattle.xd_drive.specs.Calls.{is_order};
 ghost use Rattle.xd_drive.specs.Listed.{starts_of, others_of};
-ghost use Rattle.xd_drive.specs.Marks.{is_breach, marked_heard, marked_started, may_tell};
+ghost use Rattle.xd_journal.specs.Said.{is_breach};
+ghost use Rattle.xd_drive.specs.Marks.{marked_heard, marked_started, may_tell};
 ghost use Rattle.xd_note.specs.Noted.{noted};
 ghost use Rattle.xd_journal.specs.declared.entry.Entry.{Entry};
 ghost use Rattle.xd_journal.specs.declared.news.News.{News};
 ghost use Rattle.xd_edge.specs.declared.mode.ModeKind.{ModeKind};
-ghost use Rattle.xd_group.specs.Children.{is_buried, is_killed_and_reaped, starts_told};
+ghost use Rattle.xd_starts.specs.Children.{is_buried, is_killed_and_reaped, starts_told};
 ghost use Rattle.xd_group.specs.InStep.{ChildrenInStep};
 ghost use Rattle.xd_group.specs.Kills.{KilledSo};
-ghost use Rattle.xd_group.specs.PostView.{losses_of};
+ghost use Rattle.xd_peer.specs.PeerView.{losses_of};
 ghost use Rattle.xd_group.specs.Tells.{IsStarted, marks_told};
 
-use crate::children::{Children, Opened};
 use crate::diary::Diary;
 use crate::group::{Group, Step, cut_of};
 use std::alloc::Global;
@@ -29,6 +29,7 @@ use xd_journal::{Entry, News};
 use xd_link::{Place, Starter};
 use xd_links::Links;
 use xd_reader::Reader;
+use xd_starts::{Children, Opened};
 
 /// A hub whose workers are at the end of links. A worker of slot s is started at the place of number s, and called to run
 /// the tests of the suite by the mode. It owns the starter and the crew; who is done with it takes it apart.
@@ -43,7 +44,7 @@ pub struct GatewayHub<St: Starter, C: Crew<Reader<St::Src>>> {
     ghost kills: { group.is_whole ≡ true →
         ∥ KilledSo children.children.items
         (noted group.diary.calls) group.diary.workers.items group.diary.fates.items
-        (losses_of group.posts.items) ∥₁ },
+        (losses_of group.peers.items) ∥₁ },
 }
 
 impl<St: Starter, C: Crew<Reader<St::Src>>> GatewayHub<St, C> {
@@ -78,7 +79,7 @@ impl<St: Starter, C: Crew<Reader<St::Src>>> GatewayHub<St, C> {
             group: Group {
                 links,
                 first,
-                posts: Vec::new(alloc),
+                peers: Vec::new(alloc),
                 spares: Vec::new(alloc),
                 diary,
                 suite,

@@ -8,12 +8,11 @@ ghost use Rattle.xd_post.specs.Mails.{mails};
 ghost use Rattle.xd_group.specs.Fates.{is_linked, is_refused};
 ghost use Rattle.xd_group.specs.Few.{RoseFor, count_with};
 ghost use Rattle.xd_group.specs.Kept.{Kept};
-ghost use Rattle.xd_group.specs.PostView.{pages_of};
+ghost use Rattle.xd_peer.specs.PeerView.{pages_of};
 ghost use Rattle.xd_group.specs.Unsaid.{Unsaid};
 
 use crate::diary::Diary;
-use crate::post::Post;
-use crate::posts::{hear_at, tell_at};
+use crate::peers::{hear_at, tell_at};
 use crate::spare::Spare;
 use std::alloc::Global;
 use std::snapshot::Snapshot;
@@ -23,6 +22,7 @@ use xd_edge::{ModeKind, OutOfMemory, Sink, Text};
 use xd_journal::{Entry, News, What};
 use xd_link::Source;
 use xd_links::Links;
+use xd_peer::Peer;
 use xd_reader::Reader;
 
 /// All links of a hub. It is not whole once memory ran out.
@@ -31,7 +31,7 @@ pub struct Group<S: Source + Drop, N: Sink + Drop, C: Crew<Reader<S>>> {
     /// The crew as it was at first.
     pub first: Snapshot<C>,
     /// By the numbers of the starts; one whose link is not read has none.
-    pub posts: Vec<Option<Post<N>>>,
+    pub peers: Vec<Option<Peer<N>>>,
     /// The links whose readers the crew refused, by the numbers of the starts.
     pub spares: Vec<Option<Spare<S, N>>>,
     pub diary: Diary,
@@ -41,16 +41,16 @@ pub struct Group<S: Source + Drop, N: Sink + Drop, C: Crew<Reader<S>>> {
     ghost short: { length (encode_utf8_all suite) ≤ 65536 },
     ghost kept: { is_whole ≡ true →
         ∥ Kept suite mode (news_of (mails links.desk)) (noted diary.calls)
-        (noted diary.given) diary.workers.items (pages_of posts.items) ∥₁ },
+        (noted diary.given) diary.workers.items (pages_of peers.items) ∥₁ },
     ghost few: { is_whole ≡ true →
         RoseFor (count_with is_refused diary.fates.items) (C.faults first.value)
         (C.faults links.crew) },
     ghost seats: { is_whole ≡ true →
-        map is_some (pages_of posts.items) ≡ map is_linked diary.fates.items },
+        map is_some (pages_of peers.items) ≡ map is_linked diary.fates.items },
     ghost spared: { is_whole ≡ true → map is_some spares.items ≡ map is_refused diary.fates.items },
     ghost unsaid: { is_whole ≡ true →
         ∥ Unsaid (noted diary.given) diary.workers.items
-        (pages_of posts.items) diary.waiting.items ∥₁ },
+        (pages_of peers.items) diary.waiting.items ∥₁ },
 }
 
 /// A piece of news, where there is one, and the number of a link that is to be killed, since a write failed.
@@ -70,12 +70,13 @@ pub(crate) fn cut_of(is_cut: bool, number: usize) -> Option<usize>
 impl<S: Source + Drop, N: Sink + Drop, C: Crew<Reader<S>>> Group<S, N, C> {
     ghost use Rattle.std.specs.Prelude.{◌≡◌, ◌<◌, ◌+◌, ◌∷◌, ◌++◌, [], ℕ, Option, Some, true, false, slice_get, OnOk, OnErr, IfOk, IfSome, IfNone};
     ghost use Rattle.xd_drive.specs.Calls.{is_order};
-    ghost use Rattle.xd_drive.specs.Marks.{is_breach, may_tell};
+    ghost use Rattle.xd_journal.specs.Said.{is_breach};
+    ghost use Rattle.xd_drive.specs.Marks.{may_tell};
     ghost use Rattle.xd_group.specs.Tells.{IsStarted, marks_told};
     ghost use Rattle.xd_journal.specs.declared.entry.Entry.TheVariants.{Kill};
     ghost use Rattle.xd_group.specs.Unsaid.{SaysNext};
     ghost use Rattle.xd_group.specs.Kills.{Loses};
-    ghost use Rattle.xd_group.specs.PostView.{losses_of};
+    ghost use Rattle.xd_peer.specs.PeerView.{losses_of};
 
     /// Tells a worker. Gives the number of its link, where a write failed and it is to be killed.
     pub fn say(
@@ -95,7 +96,7 @@ impl<S: Source + Drop, N: Sink + Drop, C: Crew<Reader<S>>> Group<S, N, C> {
         ensures whole { OnOk result (self.new.is_whole ≡ self.old.is_whole) }
         ensures over { OnErr result (self.new.is_whole ≡ false) }
         ensures cut { IfOk result (λ cut.
-            Loses cut (losses_of self.old.posts.items) (losses_of self.new.posts.items)) }
+            Loses cut (losses_of self.old.peers.items) (losses_of self.new.peers.items)) }
         ensures made { (self.new.suite ≡ self.old.suite) × (self.new.mode ≡ self.old.mode)
             × (self.new.first ≡ self.old.first) }
     {
@@ -106,7 +107,7 @@ impl<S: Source + Drop, N: Sink + Drop, C: Crew<Reader<S>>> Group<S, N, C> {
             unreachable!()
         };
         self.is_whole = false;
-        let is_cut = tell_at(&mut self.posts, alloc, number, order)?;
+        let is_cut = tell_at(&mut self.peers, alloc, number, order)?;
         self.diary.note_call(order);
         self.is_whole = true;
         Ok(cut_of(is_cut, number))
@@ -129,7 +130,7 @@ impl<S: Source + Drop, N: Sink + Drop, C: Crew<Reader<S>>> Group<S, N, C> {
         ensures whole { OnOk result (self.new.is_whole ≡ self.old.is_whole) }
         ensures over { OnErr result (self.new.is_whole ≡ false) }
         ensures cut { IfOk result (λ r.
-            Loses r.cut (losses_of self.old.posts.items) (losses_of self.new.posts.items)) }
+            Loses r.cut (losses_of self.old.peers.items) (losses_of self.new.peers.items)) }
         ensures made { (self.new.suite ≡ self.old.suite) × (self.new.mode ≡ self.old.mode)
             × (self.new.first ≡ self.old.first) }
     {
@@ -141,7 +142,7 @@ impl<S: Source + Drop, N: Sink + Drop, C: Crew<Reader<S>>> Group<S, N, C> {
         let Some(worker) = self.diary.worker_at(number) else {
             unreachable!()
         };
-        let heard = hear_at(&mut self.posts, number as usize, item)?;
+        let heard = hear_at(&mut self.peers, number as usize, item)?;
         let news = self.diary.note_what(worker, heard.what);
         self.is_whole = true;
         Ok(Step {
@@ -160,7 +161,7 @@ impl<S: Source + Drop, N: Sink + Drop, C: Crew<Reader<S>>> Group<S, N, C> {
         ensures none { IfNone result ((k : ℕ) →
             slice_get self.old.diary.workers.items k ≡ Some worker → ⊥) }
         ensures whole { self.new.is_whole ≡ self.old.is_whole }
-        ensures posts { self.new.posts ≡ self.old.posts }
+        ensures peers { self.new.peers ≡ self.old.peers }
         ensures made { (self.new.suite ≡ self.old.suite) × (self.new.mode ≡ self.old.mode)
             × (self.new.first ≡ self.old.first) }
         ensures starts { (self.new.diary.workers ≡ self.old.diary.workers)
@@ -184,7 +185,7 @@ impl<S: Source + Drop, N: Sink + Drop, C: Crew<Reader<S>>> Group<S, N, C> {
         ensures starts { (self.new.diary.workers ≡ self.old.diary.workers)
             × (self.new.diary.fates ≡ self.old.diary.fates) }
         ensures whole { self.new.is_whole ≡ self.old.is_whole }
-        ensures posts { self.new.posts ≡ self.old.posts }
+        ensures peers { self.new.peers ≡ self.old.peers }
         ensures made { (self.new.suite ≡ self.old.suite) × (self.new.mode ≡ self.old.mode)
             × (self.new.first ≡ self.old.first) }
     {

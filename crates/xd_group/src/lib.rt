@@ -2,9 +2,6 @@
 //! to through a gateway.
 #![tactic(auto)]
 
-mod calling;
-mod child;
-mod children;
 mod closing;
 mod diary;
 mod fate;
@@ -12,12 +9,9 @@ mod finish;
 mod gateway_hub;
 mod group;
 mod opening;
-mod post;
-mod posts;
+mod peers;
 mod spare;
 
-pub use child::Child;
-pub use children::Children;
 pub use diary::Diary;
 pub use fate::Fate;
 pub use finish::LinkEnd;

@@ -2,14 +2,14 @@
 
 use crate::fate::Fate;
 use crate::group::Group;
-use crate::post::Post;
-use crate::posts::{push_none, push_post};
+use crate::peers::{push_none, push_peer};
 use crate::spare::{Spare, keep};
 use std::alloc::Global;
 use xd_crew::Crew;
 use xd_edge::{ModeKind, OutOfMemory, Sink, Text};
 use xd_link::Source;
 use xd_links::Links;
+use xd_peer::Peer;
 use xd_reader::Reader;
 
 /// What became of a start that has a link, and whether its child is to be killed.
@@ -26,7 +26,7 @@ impl<S: Source + Drop, N: Sink + Drop, C: Crew<Reader<S>>> Group<S, N, C> {
     ghost use Rattle.xd_note.specs.Noted.{noted};
     ghost use Rattle.xd_post.specs.Mails.{mails};
     ghost use Rattle.xd_group.specs.Fates.{is_linked, is_refused, has_link};
-    ghost use Rattle.xd_group.specs.PostView.{pages_of, losses_of};
+    ghost use Rattle.xd_peer.specs.PeerView.{pages_of, losses_of};
     ghost use Rattle.xd_edge.specs.declared.mode.ModeKind.{ModeKind};
     ghost use Rattle.xd_edge.specs.Faults.{Counted};
     ghost use Rattle.xd_drive.specs.Performing.{was_started};
@@ -34,7 +34,7 @@ impl<S: Source + Drop, N: Sink + Drop, C: Crew<Reader<S>>> Group<S, N, C> {
     ghost use Rattle.xd_journal.specs.declared.entry.Entry.TheVariants.{Start};
     ghost use Rattle.xd_group.specs.declared.fate.Fate.{Fate};
     ghost use Rattle.xd_group.specs.declared.fate.Fate.TheVariants.{Unlinked};
-    ghost use Rattle.xd_group.specs.Pages.{taken_of_link, page_opened};
+    ghost use Rattle.xd_peer.specs.Pages.{taken_of_link, page_opened};
     ghost use Rattle.xd_group.specs.Kills.{CutsLast};
 
     // Starts a reader. The source comes back where the crew refused it.
@@ -59,7 +59,7 @@ impl<S: Source + Drop, N: Sink + Drop, C: Crew<Reader<S>>> Group<S, N, C> {
     // Calls the worker where its link is read, and keeps the link where its source came back. The link is to be killed where
     // nobody reads it, and where the call could not be written.
     fn seat(
-        posts: &mut Vec<Option<Post<N>>>,
+        peers: &mut Vec<Option<Peer<N>>>,
         spares: &mut Vec<Option<Spare<S, N>>>,
         alloc: Global,
         back: Option<S>,
@@ -76,17 +76,17 @@ impl<S: Source + Drop, N: Sink + Drop, C: Crew<Reader<S>>> Group<S, N, C> {
         ensures linked { IfOk result (λ r. is_linked r.fate ≡ is_none back) }
         ensures started { IfOk result (λ r. has_link r.fate ≡ true) }
         ensures pages { OnOk result
-            (pages_of posts.new.items ≡ pages_of posts.old.items
+            (pages_of peers.new.items ≡ pages_of peers.old.items
             ++ page_opened suite.now mode (is_none back) ∷ []) }
         ensures cut { IfOk result (λ r.
-            CutsLast r.fate r.is_cut (losses_of posts.old.items) (losses_of posts.new.items)) }
+            CutsLast r.fate r.is_cut (losses_of peers.old.items) (losses_of peers.new.items)) }
         ensures kept { IfOk result (λ r.
             map is_some spares.new.items ≡ map is_some spares.old.items ++ is_refused r.fate ∷ []) }
     {
         match back {
             None => {
                 keep(spares, None)?;
-                let is_cut = push_post(posts, alloc, sink, suite, mode)?;
+                let is_cut = push_peer(peers, alloc, sink, suite, mode)?;
                 Ok(Seat {
                     fate: Fate::Linked,
                     is_cut,
@@ -94,7 +94,7 @@ impl<S: Source + Drop, N: Sink + Drop, C: Crew<Reader<S>>> Group<S, N, C> {
             }
             Some(source) => {
                 keep(spares, Some(Spare { source, sink }))?;
-                push_none(posts)?;
+                push_none(peers)?;
                 Ok(Seat {
                     fate: Fate::Refused,
                     is_cut: true,
@@ -128,19 +128,19 @@ impl<S: Source + Drop, N: Sink + Drop, C: Crew<Reader<S>>> Group<S, N, C> {
         ensures whole { OnOk result (self.new.is_whole ≡ self.old.is_whole) }
         ensures over { OnErr result (self.new.is_whole ≡ false) }
         ensures cut { IfOk result (λ r.
-            CutsLast r.fate r.is_cut (losses_of self.old.posts.items)
-            (losses_of self.new.posts.items)) }
+            CutsLast r.fate r.is_cut (losses_of self.old.peers.items)
+            (losses_of self.new.peers.items)) }
         ensures made { (self.new.suite ≡ self.old.suite) × (self.new.mode ≡ self.old.mode)
             × (self.new.first ≡ self.old.first) }
     {
         let was_whole = self.is_whole;
         self.is_whole = false;
-        let Ok(number) = u32::try_from(self.posts.len()) else {
+        let Ok(number) = u32::try_from(self.peers.len()) else {
             return Err(OutOfMemory);
         };
         let back = Self::read(&mut self.links, source)?;
         let seat = Self::seat(
-            &mut self.posts,
+            &mut self.peers,
             &mut self.spares,
             alloc,
             back,
@@ -167,20 +167,20 @@ impl<S: Source + Drop, N: Sink + Drop, C: Crew<Reader<S>>> Group<S, N, C> {
         ensures whole { OnOk result (self.new.is_whole ≡ self.old.is_whole) }
         ensures over { OnErr result (self.new.is_whole ≡ false) }
         ensures lost { OnOk result
-            (losses_of self.new.posts.items ≡ losses_of self.old.posts.items ++ false ∷ []) }
+            (losses_of self.new.peers.items ≡ losses_of self.old.peers.items ++ false ∷ []) }
         ensures made { (self.new.suite ≡ self.old.suite) × (self.new.mode ≡ self.old.mode)
             × (self.new.first ≡ self.old.first) }
     {
         let was_whole = self.is_whole;
         self.is_whole = false;
-        let Ok(number) = u32::try_from(self.posts.len()) else {
+        let Ok(number) = u32::try_from(self.peers.len()) else {
             return Err(OutOfMemory);
         };
         if !self.links.has_room() {
             return Err(OutOfMemory);
         }
         self.links.skip()?;
-        push_none(&mut self.posts)?;
+        push_none(&mut self.peers)?;
         keep(&mut self.spares, None)?;
         self.diary.note_start(worker, slot, Fate::Unlinked)?;
         self.diary.note_unlinked(number, Fate::Unlinked)?;

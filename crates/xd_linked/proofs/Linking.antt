@@ -20,7 +20,7 @@ use Rattle.xd_drive.specs.declared.running.DrivenRun.{DrivenRun}
 use Rattle.xd_drive.specs.Driven.{Broken, IsJournalOf, Whole}
 use Rattle.xd_drive.specs.Listed.{is_listed, starts_of}
 use Rattle.xd_drive.specs.Marks.{no_marks}
-use Rattle.xd_group.specs.Children.{AskedOfLink, ToldByStarter, link_asked, told_of}
+use Rattle.xd_starts.specs.Children.{AskedOfLink, ToldByStarter, link_asked, told_of}
 use Rattle.xd_group.specs.Fates.{has_link, is_linked, is_refused, is_unlinked, workers_with}
 use Rattle.xd_group.specs.Few.{RoseFor, count_with}
 use Rattle.xd_group.specs.InStep.{all_started}

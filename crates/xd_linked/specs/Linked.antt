@@ -14,12 +14,12 @@ use Rattle.xd_session.specs.Ends.{is_out_fault}
 use Rattle.xd_drive.specs.Driven.{Broken, IsJournalOf, Whole}
 use Rattle.xd_drive.specs.Going.{HubScene}
 use Rattle.xd_drive.specs.Listed.{is_listed, others_of, starts_of}
-use Rattle.xd_group.specs.Children.{ToldByStarter}
+use Rattle.xd_starts.specs.Children.{ToldByStarter}
 use Rattle.xd_group.specs.Fates.{has_link, is_linked, is_refused, is_unlinked, workers_with}
 use Rattle.xd_group.specs.Few.{RoseFor, count_with}
 use Rattle.xd_group.specs.InStep.{all_started}
 use Rattle.xd_group.specs.Kills.{EndKilledSo}
-use Rattle.xd_group.specs.LinkRun.{Link, link_of}
+use Rattle.xd_peer.specs.LinkRun.{Link, link_of}
 use Rattle.xd_group.specs.Returned.{RanSo, end_told}
 use Rattle.xd_group.specs.Tells.{marks_told, workers_started}
 use Rattle.xd_group.specs.Unsaid.{SaidUnlinked}

@@ -11,7 +11,7 @@ ghost use Rattle.xd_note.specs.Noted.{noted};
 ghost use Rattle.xd_session.specs.Stands.{CanBegin, StandsFor};
 ghost use Rattle.xd_ledger.specs.State.{no_one};
 ghost use Rattle.std.specs.List.{list_all};
-ghost use Rattle.xd_group.specs.Children.{is_killed_and_reaped, told_of};
+ghost use Rattle.xd_starts.specs.Children.{is_killed_and_reaped, told_of};
 ghost use Rattle.xd_linked.specs.Linked.{LinkedRun, RunsLinked, ended_link};
 
 use std::alloc::Global;
@@ -19,7 +19,7 @@ use std::sync::Wait;
 use xd_crew::Crew;
 use xd_drive::{DrivenRun, NoWitness, drive};
 use xd_edge::{ModeKind, OutOfMemory, Sink, Text};
-use xd_group::{Children, GatewayHub, Group, LinkEnd};
+use xd_group::{GatewayHub, Group, LinkEnd};
 use xd_journal::{Journal, Settings};
 use xd_ledger::Mode;
 use xd_link::{Place, Starter};
@@ -28,6 +28,7 @@ use xd_load::{Each, Load};
 use xd_reader::Reader;
 use xd_scope::Scope;
 use xd_session::Session;
+use xd_starts::Children;
 use xd_steal::Steal;
 
 /// A suite that is to be run on workers.
@@ -253,7 +254,7 @@ fn run_in<R: Wait, M: Mode, St: Starter, C: Crew<Reader<St::Src>>, O: Sink>(
     let Group {
         links,
         first: _,
-        posts: _,
+        peers: _,
         spares: _,
         diary: _,
         suite: _,

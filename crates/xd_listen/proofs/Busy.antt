@@ -26,12 +26,12 @@ use Rattle.xd_run_tests.specs.declared.input.Input.TheVariants as input
 use Rattle.xd_run_tests.specs.Line.{FunctionCall, left, front, queue, running_test, head_test, can_give, can_ask, all_queued, kept, taken}
 use Rattle.xd_run_tests.specs.Turns.{CallTurn as Act, call_turn_of as act_of, answered, over, ended_early, ending_text, asking, moved_on, line_settled, given, stolen, stolen_if, told, item_heard_in, receiving_ended_in}
 use Rattle.xd_run_tests.specs.History.{call_after, turn_after}
-use Rattle.xd_worker.specs.declared.function.Called.{Called}
-use Rattle.xd_worker.specs.declared.function.Called.TheVariants.{Runs, Refused}
-use Rattle.xd_worker.specs.declared.function.Function.TheVariants as function
+use Rattle.xd_gateway.specs.declared.function.Called.{Called}
+use Rattle.xd_gateway.specs.declared.function.Called.TheVariants.{Runs, Refused}
+use Rattle.xd_gateway.specs.declared.function.Function.TheVariants as function
 use Rattle.xd_worker.specs.declared.talk.Sent.{Sent}
 use Rattle.xd_worker.specs.declared.talk.Sent.TheVariants as how
-use Rattle.xd_worker.specs.Functions.{called_in}
+use Rattle.xd_gateway.specs.Functions.{called_in}
 use Rattle.xd_worker.proofs.CalledOnce.{IsOther, called_other}
 use Rattle.xd_worker.specs.Talk.{sent_how, payload_on}
 use Rattle.xd_worker.specs.Worker.{Service, Worker, WorkerTurn, worker_turn_of}

@@ -4,7 +4,7 @@ use Rattle.std.proofs.lemmas.List.{append-nil}
 use Rattle.xd_journal.specs.declared.entry.Outcome.{Outcome}
 use Rattle.xd_reader.specs.declared.news.LinkNews.{LinkNews}
 use Rattle.xd_reader.specs.declared.news.LinkNews.TheVariants as news
-use Rattle.xd_edge.specs.MemChildren.{whole_output}
+use Rattle.xd_edge.specs.Children.{whole_output}
 use Rattle.xd_runner.specs.Orders.{ToldOfProgram, news_of_programs, ran_of}
 use Rattle.xd_runner.specs.Programs.{Ran}
 use Rattle.xd_worker.specs.declared.input.WorkerInput.{WorkerInput}

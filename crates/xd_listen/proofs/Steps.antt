@@ -24,12 +24,12 @@ use Rattle.xd_run_tests.specs.Line.{FunctionCall, running_test}
 use Rattle.xd_run_tests.specs.Turns.{call_turn_of as call_turn}
 use Rattle.xd_run_tests.specs.History.{Given, call_after, turn_after}
 use Rattle.xd_suite.specs.declared.test.Test.{Test}
-use Rattle.xd_worker.specs.declared.function.Called.{Called}
-use Rattle.xd_worker.specs.declared.function.Called.TheVariants.{Runs, Refused}
-use Rattle.xd_worker.specs.declared.function.Function.TheVariants as function
+use Rattle.xd_gateway.specs.declared.function.Called.{Called}
+use Rattle.xd_gateway.specs.declared.function.Called.TheVariants.{Runs, Refused}
+use Rattle.xd_gateway.specs.declared.function.Function.TheVariants as function
 use Rattle.xd_worker.specs.declared.talk.Sent.{Sent}
 use Rattle.xd_worker.specs.declared.talk.Sent.TheVariants as how
-use Rattle.xd_worker.specs.Functions.{called_in}
+use Rattle.xd_gateway.specs.Functions.{called_in}
 use Rattle.xd_factory.specs.SideTable.{ChannelTable, answer, heard_of_message, lost}
 use Rattle.xd_worker.specs.Talk.{sent_how, payload_on}
 use Rattle.xd_worker.specs.Worker.{Service, Duties, Worker, WorkerTurn, worker_turn_of, running_in}

@@ -3,8 +3,9 @@ use Rattle.std.proofs.Common.{◌≡◌, ℕ, ◌+◌, ◌==◌, true, false, no
 use Rattle.xd_ledger.specs.declared.seat.Seat.{Seat}
 use Rattle.xd_ledger.specs.Plan.{Plan, base, is_each, items_named}
 use Rattle.xd_ledger.specs.Table.{at_seat, held_in, without_seat}
-use Rattle.xd_report.specs.declared.holder.Holder.{Holder}
-use Rattle.xd_report.specs.Follows.{bare_seat, seat_of_holder}
+use Rattle.xd_held.specs.declared.holder.Holder.{Holder}
+use Rattle.xd_held.specs.Holders.{seat_of_holder}
+use Rattle.xd_report.specs.Follows.{bare_seat}
 
 pub held_kept : (w : ℕ) (ss : List Seat) → held_in w (map bare_seat ss) ≡ held_in w ss
 held_kept w [] = refl

@@ -2,12 +2,11 @@ pub mod EachReport
 pub mod Endings
 pub mod Failures
 pub mod Kept
+pub mod LocalLines
 pub mod Loops
 pub mod Moves
-pub mod LocalLines
 pub mod Named
 pub mod Prints
-pub mod Rising
 pub mod Rows
 pub mod Sums
 pub mod Texts

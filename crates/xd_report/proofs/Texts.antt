@@ -14,14 +14,9 @@ use Rattle.xd_ledger.specs.State.{after_entries, after_entry, no_one, reached, s
 use Rattle.xd_report.specs.declared.counts.Counts.{Counts}
 use Rattle.xd_report.specs.Blocks.{block_of, blocks_from}
 use Rattle.xd_report.specs.Lines.{collected_line, lines_from, lines_of, run_lines, lines_told}
-use Rattle.xd_report.specs.StopLine.{line_of_stop, refusal, refused_line}
+use Rattle.xd_phrases.specs.StopLine.{line_of_stop, refusal, refused_line}
 use Rattle.xd_report.specs.Summary.{counted, counted_from, counts, summary_text}
 use Rattle.xd_report.specs.Text.{run_text}
-
--- three pieces after what stood there
-pub three_more : (before a b c x y z : List ℕ) → x ≡ before ++ a → y ≡ x ++ b → z ≡ y ++ c → z ≡ before ++ (a ++ (b ++ c))
-three_more before a b c x y z first second third =
-    third ∙ ap (λ (l : List ℕ). l ++ c) (second ∙ ap (λ (l : List ℕ). l ++ b) first) ∙ append_assoc (before ++ a) b c ∙ append_assoc before a (b ++ c)
 
 pub lines-more : (s : State) (es more : List Entry) → lines_from s (es ++ more) ≡ lines_from s es ++ lines_from (after_entries s es) more
 lines-more s [] more = refl

@@ -2,7 +2,7 @@
 -- of this project.
 use Rattle.std.specs.Prelude.{ℕ, ℤ, zero, suc, ◌-◌, ◌≡◌, ◌==◌, Bool, true, false, List, [], ◌∷◌, ◌++◌, length, take, Some, None, is_some, slice_index_or, negsuc, if◌then◌else◌, codes}
 use Rattle.std.specs.List.{HoldsAt}
-use Rattle.std.specs.Fmt.{signed_decimal}
+use Rattle.std.specs.Fmt.{decimal, signed_decimal}
 use Rattle.xd_edge.specs.declared.mode.ModeKind.{ModeKind}
 use Rattle.xd_journal.specs.declared.entry.Entry.{Entry}
 use Rattle.xd_journal.specs.declared.entry.Entry.TheVariants.{Done, Down}
@@ -10,7 +10,7 @@ use Rattle.xd_journal.specs.declared.entry.Outcome.TheVariants.{Failed}
 use Rattle.xd_journal.specs.declared.journal.Journal.{Journal}
 use Rattle.xd_ledger.specs.Sharing.{State}
 use Rattle.xd_ledger.specs.State.{reached, after_entry, after_entries, no_one}
-use Rattle.xd_report.specs.Names.{name, tag, plain}
+use Rattle.xd_phrases.specs.Names.{name, tag, plain}
 use Rattle.xd_report.specs.Tests.{mode_of, id_of, crash_of, item_id}
 
 -- why a test failed

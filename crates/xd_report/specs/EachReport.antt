@@ -16,7 +16,7 @@ use Rattle.xd_ledger.specs.Table.{crash_item, held, retried_item}
 use Rattle.xd_report.specs.declared.counts.Counts.{Counts}
 use Rattle.xd_report.specs.Blocks.{block, blocks_from, crash_reason, reason_of}
 use Rattle.xd_report.specs.Lines.{tests_line, result_line, lost_line, down_line, replacing, run_lines}
-use Rattle.xd_report.specs.Names.{cause_text}
+use Rattle.xd_phrases.specs.Names.{cause_text}
 
 -- what a line tells: how many tests there are on how many workers, how a test went, that a worker went down and of which
 -- cause (none where it was not started), which test it went down at that is tried again, or whom a new worker replaces

@@ -4,7 +4,7 @@ use Rattle.xd_ledger.specs.declared.seat.Seat.{Seat}
 use Rattle.xd_ledger.specs.Books.{Books}
 use Rattle.xd_ledger.specs.Sharing.{State}
 use Rattle.xd_ledger.specs.Table.{fresh}
-use Rattle.xd_report.specs.declared.holder.Holder.{Holder}
+use Rattle.xd_held.specs.Holders.{seat_of_holder}
 use Rattle.xd_report.specs.declared.reporter.Reporter.{Reporter}
 
 -- the books but for where the tests stand, and for whether something is left to hand out
@@ -14,10 +14,6 @@ apart b = record b { table = fresh []; shutting = false }
 -- of a worker in the rota what it holds
 abbrev pub bare_seat : Seat → Seat
 bare_seat s = record s { shut = false }
-
--- the bare seat that a holder of the reporter stands for
-abbrev pub seat_of_holder : Holder → Seat
-seat_of_holder h = record { worker = h.worker; held = h.held; shut = false }
 
 -- it keeps the parts of this state that reports depend on
 -- Example: after a Run of 0 and 1 to gw0 it keeps that gw0 holds them, and not what their outcomes will be.

@@ -4,10 +4,8 @@ pub mod EachReport
 pub mod Follows
 pub mod Lines
 pub mod LocalLines
-pub mod Names
 pub mod Printing
 pub mod Status
-pub mod StopLine
 pub mod Summary
 pub mod Tests
 pub mod Text

@@ -14,7 +14,7 @@ use Rattle.xd_ledger.specs.Retry.{is_retry}
 use Rattle.xd_ledger.specs.Sharing.{State}
 use Rattle.xd_ledger.specs.Collecting.{after_collected}
 use Rattle.xd_ledger.specs.State.{reached, after_entry, after_entries, no_one}
-use Rattle.xd_report.specs.Names.{name, tag, plain, outcome_text, lost_text, mode_text, cause_text}
+use Rattle.xd_phrases.specs.Names.{name, tag, plain, outcome_text, lost_text, mode_text, cause_text}
 use Rattle.xd_report.specs.Tests.{mode_of, id_of, head, item_id, tests}
 
 -- how many tests there are, and on whom they run

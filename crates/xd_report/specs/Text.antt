@@ -6,7 +6,7 @@ use Rattle.xd_journal.specs.declared.settings.Settings.{Settings}
 use Rattle.xd_ledger.specs.State.{no_one, state_at}
 use Rattle.xd_report.specs.Blocks.{blocks_from}
 use Rattle.xd_report.specs.Lines.{run_lines}
-use Rattle.xd_report.specs.StopLine.{line_of_stop}
+use Rattle.xd_phrases.specs.StopLine.{line_of_stop}
 use Rattle.xd_report.specs.Summary.{counts, summary_text}
 
 -- the blocks of the failed reports in journal order, the line of the stop that the entries decide, which a failing

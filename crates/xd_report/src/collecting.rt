@@ -9,12 +9,12 @@ ghost use Rattle.xd_ledger.specs.Table.{joined};
 ghost use Rattle.xd_ledger.specs.Workers.{made_collected};
 ghost use Rattle.xd_report.specs.Follows.{Follows};
 
-use crate::holder;
 use crate::reporter::Reporter;
 use std::alloc::Global;
+use xd_books::{Books, differ_at, is_each};
 use xd_edge::{OutOfMemory, Text};
 use xd_journal::{Ids, RunStop};
-use xd_ledger::{Books, Mark, differ_at, is_each};
+use xd_ledger::Mark;
 
 // The ids that a collection lists.
 fn ids_of(given: &Ids) -> &[Text]
@@ -108,7 +108,7 @@ impl Reporter {
         ensures { (s : State) → Follows self.old s →
             OnOk result (Follows self.new (in_books (on_table (joined worker)) s)) }
     {
-        holder::join(alloc, &mut self.rota, worker)?;
+        xd_held::join(alloc, &mut self.rota, worker)?;
         Ok(())
     }
 

@@ -5,10 +5,10 @@ ghost use Rattle.xd_ledger.specs.State.{after_entries};
 ghost use Rattle.xd_report.specs.Follows.{Follows};
 ghost use Rattle.xd_report.specs.Summary.{counted, counted_from};
 
-use crate::numbers::plus;
 use crate::reporter::Reporter;
 use std::alloc::Global;
 use xd_edge::OutOfMemory;
+use xd_held::plus;
 use xd_journal::{Entry, Outcome};
 
 /// How many reports there are of each kind. A crash is a failure.

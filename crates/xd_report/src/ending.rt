@@ -7,12 +7,11 @@ ghost use Rattle.xd_report.specs.Follows.{Follows};
 ghost use Rattle.xd_report.specs.Text.{tail_text};
 
 use crate::reporter::Reporter;
-use crate::stop_line::add_line_of_stop;
 use crate::summary::{counts_of, summary};
-use crate::writing::add;
 use std::alloc::Global;
 use xd_edge::{Blob, OutOfMemory};
 use xd_journal::{Entry, Journal};
+use xd_phrases::{add, add_line_of_stop};
 
 /// The blocks of the failed reports, the line of the stop where the run stopped, and the summary.
 pub fn tail(alloc: Global, journal: &Journal) -> Result<Blob, OutOfMemory>

@@ -7,11 +7,10 @@ ghost use Rattle.xd_ledger.specs.Handing.{after_back, after_run, after_run_all};
 ghost use Rattle.xd_ledger.specs.State.{after_effect};
 ghost use Rattle.xd_report.specs.Follows.{Follows};
 
-use crate::holder;
-use crate::numbers::numbers_from;
 use crate::reporter::Reporter;
 use std::alloc::Global;
 use xd_edge::OutOfMemory;
+use xd_held::numbers_from;
 use xd_ledger::Mark;
 
 impl Reporter {
@@ -43,7 +42,7 @@ impl Reporter {
             OnOk result (Follows self.new (after_run worker indices.now s)) }
     {
         let items = self.items(alloc, worker, indices)?;
-        holder::add_held(&mut self.rota, worker, &items)?;
+        xd_held::add_held(&mut self.rota, worker, &items)?;
         Ok(())
     }
 
@@ -54,7 +53,7 @@ impl Reporter {
     {
         let base = self.base(worker)?;
         let items = numbers_from(alloc, base, self.size(worker))?;
-        holder::add_held(&mut self.rota, worker, &items)?;
+        xd_held::add_held(&mut self.rota, worker, &items)?;
         Ok(())
     }
 
@@ -69,7 +68,7 @@ impl Reporter {
             OnOk result (Follows self.new (after_back worker indices.now s)) }
     {
         let items = self.items(alloc, worker, indices)?;
-        holder::take_held(&mut self.rota, worker, &items);
+        xd_held::take_held(&mut self.rota, worker, &items);
         Ok(())
     }
 

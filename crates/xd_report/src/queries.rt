@@ -9,12 +9,11 @@ ghost use Rattle.xd_ledger.specs.Workers.{is_shut, slot_of};
 ghost use Rattle.xd_report.specs.Follows.{Follows};
 ghost use Rattle.xd_report.specs.Tests.{crash_of, head, id_of, item_id, mode_of, tests};
 
-use crate::holder;
-use crate::numbers::{each_more, sum_of};
 use crate::reporter::Reporter;
 use std::alloc::Global;
+use xd_books::is_each;
 use xd_edge::{ModeKind, OutOfMemory, Text};
-use xd_ledger::is_each;
+use xd_held::{each_more, sum_of};
 
 impl Reporter {
     pub(crate) fn mode(&self) -> ModeKind
@@ -64,7 +63,7 @@ impl Reporter {
     pub(crate) fn head(&self, worker: u32) -> Option<u64>
         ensures { (s : State) → Follows self.now s → result ≡ head worker s }
     {
-        holder::head_in(&self.rota, worker)
+        xd_held::head_in(&self.rota, worker)
     }
 
     // Where the worker goes down, the test at its head is tried again.

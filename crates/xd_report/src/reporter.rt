@@ -4,11 +4,11 @@ ghost use Rattle.xd_ledger.specs.Sharing.{State};
 ghost use Rattle.xd_ledger.specs.State.{after_entry, no_one};
 ghost use Rattle.xd_report.specs.Follows.{Follows};
 
-use crate::holder::Holder;
 use std::alloc::Global;
+use xd_books::Books;
 use xd_edge::OutOfMemory;
+use xd_held::Holder;
 use xd_journal::{Entry, RunStop, Settings};
-use xd_ledger::Books;
 
 /// Follows a journal entry by entry, and keeps of it what the report of the next entry needs: the books of the run, what
 /// each worker holds, and how many tests each slot has.

@@ -12,11 +12,10 @@ ghost use Rattle.xd_ledger.specs.Workers.{slot_of};
 ghost use Rattle.xd_report.specs.Follows.{Follows};
 ghost use Rattle.xd_report.specs.Tests.{head};
 
-use crate::holder;
-use crate::numbers::plus;
 use crate::reporter::Reporter;
 use std::alloc::Global;
 use xd_edge::OutOfMemory;
+use xd_held::plus;
 use xd_journal::{Outcome, RunStop};
 use xd_ledger::Mark;
 
@@ -53,7 +52,7 @@ impl Reporter {
             (items_named (slot_of worker s.books) (index ∷ []) s.plan))) s)) }
     {
         let item = plus(self.base(worker)?, index as u64)?;
-        holder::take_held(&mut self.rota, worker, &[item]);
+        xd_held::take_held(&mut self.rota, worker, &[item]);
         Ok(())
     }
 
@@ -62,7 +61,7 @@ impl Reporter {
         ensures { (s : State) → Follows self.old s →
             Follows self.new (after_effect s (Finished worker)) }
     {
-        holder::leave(&mut self.rota, worker);
+        xd_held::leave(&mut self.rota, worker);
         self.books.mark(worker, Mark::Gone);
     }
 
@@ -83,7 +82,7 @@ impl Reporter {
         let head = self.head(worker);
         let retry = self.is_retry(worker);
         self.books.bury(worker, head, retry)?;
-        holder::leave(&mut self.rota, worker);
+        xd_held::leave(&mut self.rota, worker);
         Ok(())
     }
 }

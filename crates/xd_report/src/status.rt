@@ -7,9 +7,9 @@ ghost use Rattle.xd_report.specs.Follows.{Follows};
 ghost use Rattle.xd_report.specs.Status.{completed_status, status_in};
 ghost use Rattle.xd_report.specs.Tests.{tests};
 
-use crate::numbers::are_all_zero;
 use crate::reporter::Reporter;
 use xd_edge::ModeKind;
+use xd_held::are_all_zero;
 use xd_journal::RunStop;
 
 impl Reporter {

@@ -4,9 +4,8 @@ use Rattle.std.specs.Prelude.{option_map, slice_get, slice_set, OnErr, OnOk, is_
 use Rattle.std.proofs.lemmas.List.{append-nil, map-append}
 use Rattle.std.proofs.lemmas.List.Elements.{All-nil, All-push}
 use Rattle.std.proofs.lemmas.List.Sums.{sum_by-append}
-use Rattle.xd_edge.specs.Children.{ChildRun, AddsRun}
+use Rattle.xd_edge.specs.Children.{ChildRun, AddsRun, whole_output}
 use Rattle.xd_edge.specs.Faults.{RoseBy}
-use Rattle.xd_edge.specs.MemChildren.{whole_output}
 use Rattle.xd_journal.specs.declared.entry.Outcome.{Outcome}
 use Rattle.xd_post.specs.Post.{Ring}
 use Rattle.xd_post.specs.Mails.{TakesAt}

@@ -3,9 +3,8 @@ use Rattle.std.proofs.Common.{◌≡◌, ℕ, ◌≤◌, List, [], ◌∷◌, �
 use Rattle.std.specs.Prelude.{option_map, IfOk, OnErr}
 use Rattle.std.proofs.lemmas.List.{append-nil, map-append}
 use Rattle.std.proofs.lemmas.List.Elements.{All-nil, All-push}
-use Rattle.xd_edge.specs.Children.{ChildRun, AddsRun, ChangesRun, IsNext, change_at, not_started, running, with_last, with_output, with_read_fault}
+use Rattle.xd_edge.specs.Children.{ChildRun, AddsRun, ChangesRun, IsNext, change_at, not_started, running, with_last, with_output, with_read_fault, whole_output}
 use Rattle.xd_edge.specs.Faults.{Counted, Rose, RoseBy}
-use Rattle.xd_edge.specs.MemChildren.{whole_output}
 use Rattle.xd_edge.proofs.ChildLemmas.{change_at_end, change_at_not, change_at_twice}
 use Rattle.xd_journal.specs.declared.entry.Outcome.{Outcome}
 use Rattle.xd_journal.specs.declared.entry.Outcome.TheVariants.{Failed}

@@ -1,9 +1,8 @@
 -- Orders that a runner takes, and what it puts.
 use Rattle.std.specs.Prelude.{◌≡◌, ℕ, ◌<◌, ◌≤◌, ◌⊎◌, List, [], ◌∷◌, ◌++◌, Option, Some, map, length, All}
 use Rattle.xd_edge.specs.Limits.{most_piece_bytes}
-use Rattle.xd_edge.specs.Children.{ChildRun}
+use Rattle.xd_edge.specs.Children.{ChildRun, whole_output}
 use Rattle.xd_edge.specs.Faults.{RoseBy}
-use Rattle.xd_edge.specs.MemChildren.{whole_output}
 use Rattle.xd_journal.specs.declared.entry.Outcome.{Outcome}
 use Rattle.xd_post.specs.Post.{Ring}
 use Rattle.xd_reader.specs.declared.news.LinkNews.{LinkNews}

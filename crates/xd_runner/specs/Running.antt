@@ -1,9 +1,8 @@
 -- Inner words: one program, from its start to its end.
 use Rattle.std.specs.Prelude.{◌≡◌, ℕ, ◌≤◌, ◌⊎◌, Bool, List, [], ◌++◌, Option, Some, map, All}
-use Rattle.xd_edge.specs.Children.{ChildRun, ChangesRun, with_last, with_output}
+use Rattle.xd_edge.specs.Children.{ChildRun, ChangesRun, with_last, with_output, whole_output}
 use Rattle.xd_edge.specs.declared.children.Fate.{Fate}
 use Rattle.xd_edge.specs.Faults.{RoseBy}
-use Rattle.xd_edge.specs.MemChildren.{whole_output}
 use Rattle.xd_journal.specs.declared.entry.Outcome.{Outcome}
 use Rattle.xd_reader.specs.declared.news.LinkNews.{LinkNews}
 use Rattle.xd_reader.specs.declared.news.LinkNews.TheVariants.{Output}

@@ -14,8 +14,8 @@ use Rattle.xd_ledger.specs.Proper.{IsProper}
 use Rattle.xd_ledger.specs.Meaning.{spent_by}
 use Rattle.xd_ledger.specs.Workers.{begun_at, started}
 use Rattle.std.proofs.lemmas.List.{append-nil}
-use Rattle.xd_session.specs.Known.{Known, known_of}
-use Rattle.xd_session.specs.Rules.{At, InStep}
+use Rattle.xd_run_books.specs.Known.{Known, known_of}
+use Rattle.xd_rules.specs.Rules.{At, InStep}
 use Rattle.xd_session.specs.Stands.{CanBegin}
 
 -- the start with these workers

@@ -15,13 +15,13 @@ use Rattle.xd_ledger.specs.Legal.{EndsWith, IsLegal}
 use Rattle.xd_ledger.specs.Proper.{IsProper}
 use Rattle.xd_laws.proofs.NoOver.{no-over-journal}
 use Rattle.xd_laws.proofs.Walk.{all-inputs, journal-state}
-use Rattle.xd_session.specs.declared.logs.WorkerLog.{WorkerLog}
+use Rattle.xd_run_books.specs.declared.logs.WorkerLog.{WorkerLog}
 use Rattle.xd_session.specs.Ends.{is_out_fault, last_stop}
-use Rattle.xd_session.specs.Known.{Known}
-use Rattle.xd_session.specs.Rules.{InStep}
+use Rattle.xd_run_books.specs.Known.{Known}
+use Rattle.xd_rules.specs.Rules.{InStep}
 use Rattle.xd_session.specs.Stands.{SessionSeen, StandsFor, state_of}
 use Rattle.xd_session.proofs.Begin.{begun-proper}
-use Rattle.xd_session.proofs.Closing.{append-nil}
+use Rattle.xd_rules.proofs.Closing.{append-nil}
 use Rattle.xd_session.proofs.Ends.{ending-stop, told-so}
 
 -- whoever stands for news has settings of a proper run

@@ -1,23 +1,11 @@
 pub mod Activity
-pub mod Acts
-pub mod Bare
 pub mod Begin
 pub mod Bounds
-pub mod Closing
-pub mod Compares
-pub mod Deaths
-pub mod Disorder
 pub mod Ends
 pub mod Joins
-pub mod Judging
 pub mod Lawful
-pub mod Loops
-pub mod Orders
 pub mod Part
-pub mod Places
-pub mod Retrying
-mod Rows
-pub mod Shares
+pub mod Rows
 pub mod Steady
 pub mod Steps
 pub mod Taking

@@ -25,7 +25,7 @@ use Rattle.xd_laws.proofs.Logic.{and, cases_of, differ, in_both, or-right, split
 use Rattle.xd_session.specs.History.{IsProperRun, Run as SoFar, entries_with, input_of, run_of, said_by}
 use Rattle.xd_session.specs.Part.{EndsWorker, HasPart, MeansEach, as_list, inputs_by, is_end_of, is_ended, is_of_log, is_said_by, meant_after, meant_by}
 use Rattle.xd_session.proofs.Activity.{Active, active-following}
-use Rattle.xd_session.proofs.Shares.{given-is}
+use Rattle.xd_rules.proofs.Shares.{given-is}
 use Rattle.xd_session.proofs.Steps.{none-some, outputs-orderly, run-more, same-entry, sound-run}
 
 -- outputs are no inputs

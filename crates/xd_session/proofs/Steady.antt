@@ -25,12 +25,12 @@ use Rattle.xd_laws.proofs.OwingRuns.{owed}
 use Rattle.xd_laws.proofs.Placed.{due_times}
 use Rattle.xd_laws.proofs.Turns.{Tidy}
 use Rattle.xd_laws.proofs.Walk.{journal-state}
-use Rattle.xd_session.specs.declared.logs.WorkerLog.{WorkerLog}
+use Rattle.xd_run_books.specs.declared.logs.WorkerLog.{WorkerLog}
 use Rattle.xd_session.specs.History.{Run as SoFar, entries_with, input_of, run_of, said_by}
-use Rattle.xd_session.specs.Joining.{IsBare, IsToJoin}
-use Rattle.xd_session.specs.Kept.{log_in, shortened}
-use Rattle.xd_session.specs.Known.{Known}
-use Rattle.xd_session.specs.Rules.{At, InStep}
+use Rattle.xd_rules.specs.Joining.{IsBare, IsToJoin}
+use Rattle.xd_run_books.specs.Kept.{log_in, shortened}
+use Rattle.xd_run_books.specs.Known.{Known}
+use Rattle.xd_rules.specs.Rules.{At, InStep}
 use Rattle.xd_session.specs.Stands.{SessionSeen, StandsFor}
 use Rattle.xd_session.specs.Told.{Steady, Told, TookNews}
 use Rattle.xd_session.proofs.Joins.{AllCollected, joins-following}

@@ -26,10 +26,10 @@ use Rattle.xd_ledger.specs.Workers.{is_active}
 use Rattle.xd_laws.proofs.Laws.{orderly}
 use Rattle.xd_laws.proofs.Logic.{and, differ, split-and}
 use Rattle.xd_laws.proofs.Walk.{input-of}
-use Rattle.xd_session.specs.declared.logs.WorkerLog.{WorkerLog}
+use Rattle.xd_run_books.specs.declared.logs.WorkerLog.{WorkerLog}
 use Rattle.xd_session.specs.History.{IsProperRun, Run as SoFar, after_news, begun_run, entries_with, input_of, inputs_with, run_of, said_by, state_with}
-use Rattle.xd_session.specs.Kept.{log_in, shortened}
-use Rattle.xd_session.proofs.Closing.{state-grown}
+use Rattle.xd_run_books.specs.Kept.{log_in, shortened}
+use Rattle.xd_rules.proofs.Closing.{state-grown}
 
 -- the state after one more input
 

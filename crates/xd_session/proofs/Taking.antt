@@ -21,15 +21,15 @@ use Rattle.xd_ledger.specs.Table.{held}
 use Rattle.xd_ledger.specs.Workers.{has_collected, is_active, is_shut, was_ready}
 use Rattle.xd_laws.proofs.Logic.{and, not_true, split-and}
 use Rattle.xd_laws.proofs.Placed.{empty_of}
-use Rattle.xd_session.specs.declared.judge.Verdict.TheVariants.{Silent, Follows, Breach}
-use Rattle.xd_session.specs.declared.logs.WorkerLog.{WorkerLog}
-use Rattle.xd_session.specs.Judged.{follows_where, judged, silent_where}
-use Rattle.xd_session.specs.Kept.{log_in, shortened}
-use Rattle.xd_session.specs.Known.{Known}
-use Rattle.xd_session.specs.Rules.{At, Comes, Ruled}
+use Rattle.xd_rules.specs.declared.judge.Verdict.TheVariants.{Silent, Follows, Breach}
+use Rattle.xd_run_books.specs.declared.logs.WorkerLog.{WorkerLog}
+use Rattle.xd_rules.specs.Judged.{follows_where, judged, silent_where}
+use Rattle.xd_run_books.specs.Kept.{log_in, shortened}
+use Rattle.xd_run_books.specs.Known.{Known}
+use Rattle.xd_rules.specs.Rules.{At, Comes, Ruled}
 use Rattle.xd_session.specs.Told.{Steady, Told, TookNews}
-use Rattle.xd_session.proofs.Disorder.{in_order, orderly-collection}
-use Rattle.xd_session.proofs.Shares.{given-is}
+use Rattle.xd_rules.proofs.Disorder.{in_order, orderly-collection}
+use Rattle.xd_rules.proofs.Shares.{given-is}
 
 -- verdicts
 
@@ -131,16 +131,6 @@ logs-same w v log l s n false h k = refl
 pub took-follows : (w : ℕ) (n : What) (s : State) (logs : List WorkerLog) (es fs : List Entry) (spent now : ℕ) (b : Books) (k : Known) (st : Plan → Type 0) → judged w (log_in w logs) s n ≡ Follows
     → ((v : ℕ) → log_in v logs ≡ shortened (log_in v logs)) → Told (meaning_of w (log_in w logs) spent s n) s es fs spent now b k st → TookNews w n s logs logs es fs spent now b k st
 took-follows w n s logs es fs spent now b k st h short t = record { told = t; logs_are = λ v. logs-same w v (log_in w logs) (log_in v logs) s n (v == w) h (short v) }
-
--- a log that is closed is no longer than it was
-
-closed-short : (l : Option Log) (n : ℕ) → with_news (shortened l) (what.LogClosed n) ≡ shortened (with_news l (what.LogClosed n))
-closed-short None n = refl
-closed-short (Some x) n = refl
-
-pub closed-where : (b : Bool) (l : Option Log) (n : ℕ) → l ≡ shortened l → (if b then with_news l (what.LogClosed n) else l) ≡ (if b then shortened (with_news l (what.LogClosed n)) else l)
-closed-where true l n h = ap (λ o. with_news o (what.LogClosed n)) h ∙ closed-short l n
-closed-where false l n h = refl
 
 -- the input of the news may follow
 

@@ -1,13 +1,6 @@
-pub mod Books
 pub mod Bounded
-pub mod Compared
 pub mod Ends
 pub mod History
-pub mod Joining
-pub mod Judged
-pub mod Kept
-pub mod Known
 pub mod Part
-pub mod Rules
 pub mod Stands
 pub mod Told

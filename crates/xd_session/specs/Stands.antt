@@ -7,8 +7,8 @@ use Rattle.xd_ledger.specs.Sharing.{State}
 use Rattle.xd_ledger.specs.State.{state_at}
 use Rattle.xd_ledger.specs.Proper.{has_workers, most_workers, most_restarts}
 use Rattle.xd_ledger.specs.Meaning.{log_of}
-use Rattle.xd_session.specs.declared.logs.WorkerLog.{WorkerLog}
-use Rattle.xd_session.specs.Kept.{log_in, shortened}
+use Rattle.xd_run_books.specs.declared.logs.WorkerLog.{WorkerLog}
+use Rattle.xd_run_books.specs.Kept.{log_in, shortened}
 use Rattle.xd_session.specs.History.{run_of, said_by}
 
 -- what callers see of a session

@@ -8,11 +8,11 @@ use Rattle.xd_ledger.specs.Meaning.{meaning_of, spent_by, with_news}
 use Rattle.xd_ledger.specs.Plan.{Plan}
 use Rattle.xd_ledger.specs.Sharing.{State}
 use Rattle.xd_laws.specs.Called.{Reached}
-use Rattle.xd_session.specs.declared.logs.WorkerLog.{WorkerLog}
+use Rattle.xd_run_books.specs.declared.logs.WorkerLog.{WorkerLog}
 use Rattle.xd_session.specs.History.{entries_with, state_with}
-use Rattle.xd_session.specs.Kept.{log_in, shortened}
-use Rattle.xd_session.specs.Known.{Known}
-use Rattle.xd_session.specs.Rules.{At}
+use Rattle.xd_run_books.specs.Kept.{log_in, shortened}
+use Rattle.xd_run_books.specs.Known.{Known}
+use Rattle.xd_rules.specs.Rules.{At}
 
 -- what is kept of a run stands for a state of a proper run
 pub record Steady (s : State) (b : Books) (k : Known) (stands : Plan → Type 0) : Type 0 where

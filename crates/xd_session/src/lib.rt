@@ -2,23 +2,8 @@
 //! and no program. pytest-xdist's DSession.
 #![tactic(auto)]
 
-mod books;
-mod collecting;
-mod ending;
-mod held;
-mod judge;
-mod known;
 mod laws;
-mod lists;
-mod logs;
-mod losses;
-mod marks;
-mod outputs;
-mod plan;
-mod rules;
-mod seats;
 mod session;
-mod state;
 mod step;
 mod take;
 

@@ -3,6 +3,7 @@ use std::alloc::Global;
 use std::sync::Wait;
 use std::test::Fail;
 use xd_edge::*;
+use xd_memory::*;
 
 fn texts(alloc: Global, all: &[&str]) -> Result<Texts, Fail> {
     let mut items = Vec::new(alloc);

@@ -6,6 +6,7 @@ use std::sync::Wait;
 use std::test::Fail;
 use xd_edge::*;
 use xd_link::*;
+use xd_memory::*;
 
 // What a read into four bytes gave; none where it failed.
 fn heard<R: Wait + AllocGlobal>(rt: &R, source: &mut MemSource) -> Option<Vec<u8>> {

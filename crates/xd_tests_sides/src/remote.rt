@@ -5,10 +5,11 @@ mod rows;
 
 use std::alloc::{AllocError, Global};
 use std::test::Fail;
-use xd_edge::{Indices, MemSink, Text};
+use xd_edge::{Indices, Text};
 use xd_factory::Parity;
 use xd_frame::Framer;
 use xd_journal::{Outcome, What};
+use xd_memory::MemSink;
 use xd_remote::Gateway;
 use xd_value::Value;
 

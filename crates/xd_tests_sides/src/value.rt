@@ -2,7 +2,8 @@
 use std::alloc::Global;
 use std::test::Fail;
 use xd_edge::Blob;
-use xd_value::{DumpFault, Value, dumps, loads};
+use xd_loads::loads;
+use xd_value::{DumpFault, Value, dumps};
 
 fn payload_of(alloc: Global, value: &Value) -> Result<Blob, Fail> {
     Ok(dumps(alloc, value).ok().ok_or("not written")?)

@@ -1,7 +1,7 @@
 -- What a run on workers comes to.
 use Rattle.std.specs.Prelude.{ℕ, ◌≡◌, List, Option, Some, None, option_map}
 use Rattle.xd_journal.specs.declared.journal.Journal.{Journal}
-use Rattle.xd_group.specs.Children.{told_of}
+use Rattle.xd_starts.specs.Children.{told_of}
 use Rattle.xd_linked.specs.Linked.{EndedLink, LinkedRun, LinksSeen, Setup}
 use Rattle.xd_top.specs.Outside.{Outside}
 

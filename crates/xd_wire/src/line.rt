@@ -11,8 +11,9 @@ use itoa::Buffer;
 use std::alloc::Global;
 use xd_edge::OutOfMemory;
 use xd_frame::{Header, Kind};
+use xd_loads::loads;
 use xd_show::show;
-use xd_value::{LoadFault, LoadWhat, Value, loads};
+use xd_value::{LoadFault, LoadWhat, Value};
 
 /// What a message is printed as: a line, or the first fault of its payload and the place of that there.
 #[derive(Clone, Copy)]

@@ -3,13 +3,13 @@ use Rattle.std.proofs.Common.{Bool, true, false, Option, Some, None}
 use Rattle.std.specs.Prelude.{if◌then◌else◌}
 use Rattle.xd_value.specs.Tree.{Tree, Pairs, none, truth, int, bytes, text, list, tuple, set, frozenset, dict, channel, no_trees, tree}
 use Rattle.xd_gateway.specs.Calls.{has_text_keys}
-use Rattle.xd_worker.specs.declared.function.Called.{Called}
-use Rattle.xd_worker.specs.declared.function.Called.TheVariants.{Runs, Refused}
-use Rattle.xd_worker.specs.declared.function.CallFault.TheVariants.{BadCall, SourceText}
-use Rattle.xd_worker.specs.declared.function.Function.TheVariants as function
-use Rattle.xd_worker.specs.declared.function.Name.{Name}
-use Rattle.xd_worker.specs.declared.function.Name.TheVariants as name
-use Rattle.xd_worker.specs.Functions.{called_in, call_of, has_no_source, named, name_of, with_value, with_kwargs, function_of}
+use Rattle.xd_gateway.specs.declared.function.Called.{Called}
+use Rattle.xd_gateway.specs.declared.function.Called.TheVariants.{Runs, Refused}
+use Rattle.xd_gateway.specs.declared.function.CallFault.TheVariants.{BadCall, SourceText}
+use Rattle.xd_gateway.specs.declared.function.Function.TheVariants as function
+use Rattle.xd_gateway.specs.declared.function.FunctionName.{FunctionName}
+use Rattle.xd_gateway.specs.declared.function.FunctionName.TheVariants as name
+use Rattle.xd_gateway.specs.Functions.{called_in, call_of, has_no_source, named, name_of, with_value, with_kwargs, function_of}
 
 -- A call that is no other call of `run_tests`.
 abbrev pub IsOther : Called → Type 0
@@ -19,19 +19,19 @@ IsOther (Runs (function.RunTests path mode)) = ⊥
 IsOther (Refused fault) = Unit {0}
 
 -- where `run_tests` was called, it is not called again
-function_other : (f : Name) (ps : Pairs) → IsOther (function_of true f ps)
+function_other : (f : FunctionName) (ps : Pairs) → IsOther (function_of true f ps)
 function_other name.Echo ps = tt
 function_other name.Fail ps = tt
 function_other name.RunTests ps = tt
 
-kwargs_other : (f : Name) (ps : Pairs) → IsOther (with_kwargs true f ps)
+kwargs_other : (f : FunctionName) (ps : Pairs) → IsOther (with_kwargs true f ps)
 kwargs_other f ps = go (has_text_keys ps)
   where
     go : (b : Bool) → IsOther (if b then function_of true f ps else Refused BadCall)
     go true = function_other f ps
     go false = tt
 
-value_other : (f : Option Name) (v : Tree) → IsOther (with_value true f v)
+value_other : (f : Option FunctionName) (v : Tree) → IsOther (with_value true f v)
 value_other None v = tt
 value_other (Some f) (dict ps) = kwargs_other f ps
 value_other (Some f) none = tt

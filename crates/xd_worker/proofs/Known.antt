@@ -19,12 +19,12 @@ use Rattle.xd_run_tests.specs.declared.phase.Phase.TheVariants.{Awaiting, Servin
 use Rattle.xd_run_tests.specs.declared.phase.Phase.TheVariants as phase
 use Rattle.xd_run_tests.specs.History.{call_after, turn_after, size_opened, size_after}
 use Rattle.xd_run_tests.proofs.Within.{all_known}
-use Rattle.xd_worker.specs.declared.function.Called.{Called}
-use Rattle.xd_worker.specs.declared.function.Called.TheVariants.{Runs, Refused}
-use Rattle.xd_worker.specs.declared.function.Function.TheVariants as function
+use Rattle.xd_gateway.specs.declared.function.Called.{Called}
+use Rattle.xd_gateway.specs.declared.function.Called.TheVariants.{Runs, Refused}
+use Rattle.xd_gateway.specs.declared.function.Function.TheVariants as function
 use Rattle.xd_worker.specs.declared.talk.Sent.{Sent}
 use Rattle.xd_worker.specs.declared.talk.Sent.TheVariants as how
-use Rattle.xd_worker.specs.Functions.{called_in}
+use Rattle.xd_gateway.specs.Functions.{called_in}
 use Rattle.xd_factory.specs.SideTable.{heard_of_message, answer, lost}
 use Rattle.xd_worker.specs.Talk.{sent_how, payload_on}
 use Rattle.xd_worker.specs.Worker.{Service, WorkerTurn, worker_turn_of, running_in}

@@ -1,8 +1,7 @@
-pub mod Fours
-pub mod Tables
-pub mod Standing
+pub mod CalledOnce
 pub mod Hearing
 pub mod Known
 pub mod Logs
 pub mod Opens
-pub mod CalledOnce
+pub mod Standing
+pub mod Tables

@@ -32,15 +32,15 @@ use Rattle.xd_run_tests.specs.Line.{FunctionCall, number_of_log, running_test}
 use Rattle.xd_run_tests.specs.History.{Given, call_after, turn_after}
 use Rattle.xd_run_tests.specs.Logs.{Logs, begun_tests, logs_of, LogStep, LogSteps}
 use Rattle.xd_run_tests.proofs.Logs.{one_log, is_stopped, stops, goes}
-use Rattle.xd_worker.specs.declared.function.Called.{Called}
-use Rattle.xd_worker.specs.declared.function.Called.TheVariants.{Runs, Refused}
-use Rattle.xd_worker.specs.declared.function.Function.TheVariants as function
+use Rattle.xd_gateway.specs.declared.function.Called.{Called}
+use Rattle.xd_gateway.specs.declared.function.Called.TheVariants.{Runs, Refused}
+use Rattle.xd_gateway.specs.declared.function.Function.TheVariants as function
 use Rattle.xd_worker.specs.declared.talk.Sent.{Sent}
 use Rattle.xd_worker.specs.declared.talk.Sent.TheVariants as how
-use Rattle.xd_worker.specs.declared.function.CallFault.TheVariants.{BadCall, SourceText}
-use Rattle.xd_worker.specs.declared.function.Name.{Name}
-use Rattle.xd_worker.specs.declared.function.Name.TheVariants as name
-use Rattle.xd_worker.specs.Functions.{called_in, call_of, has_no_source, named, name_of, with_value, with_kwargs, function_of}
+use Rattle.xd_gateway.specs.declared.function.CallFault.TheVariants.{BadCall, SourceText}
+use Rattle.xd_gateway.specs.declared.function.FunctionName.{FunctionName}
+use Rattle.xd_gateway.specs.declared.function.FunctionName.TheVariants as name
+use Rattle.xd_gateway.specs.Functions.{called_in, call_of, has_no_source, named, name_of, with_value, with_kwargs, function_of}
 use Rattle.xd_factory.specs.SideTable.{ChannelTable, Counts, changed_at, opened, heard_of_message, answer, lost}
 use Rattle.xd_worker.specs.Table.{empty}
 use Rattle.xd_worker.specs.Talk.{Talk, told_tree, sent_how, payload_on, function_begun}
@@ -313,19 +313,19 @@ again_not (Runs function.Echo) = tt
 again_not (Runs (function.Fail x)) = tt
 again_not (Runs (function.RunTests path mode)) = refl
 
-again_function : (f : Name) (ps : Pairs) → Again true (function_of true f ps)
+again_function : (f : FunctionName) (ps : Pairs) → Again true (function_of true f ps)
 again_function name.Echo ps = tt
 again_function name.Fail ps = tt
 again_function name.RunTests ps = tt
 
-again_kwargs : (f : Name) (ps : Pairs) → Again true (with_kwargs true f ps)
+again_kwargs : (f : FunctionName) (ps : Pairs) → Again true (with_kwargs true f ps)
 again_kwargs f ps = go (has_text_keys ps)
   where
     go : (b : Bool) → Again true (if b then function_of true f ps else Refused BadCall)
     go true = again_function f ps
     go false = tt
 
-again_value : (f : Option Name) (kwargs : Tree) → Again true (with_value true f kwargs)
+again_value : (f : Option FunctionName) (kwargs : Tree) → Again true (with_value true f kwargs)
 again_value None kwargs = tt
 again_value (Some f) (tree.dict ps) = again_kwargs f ps
 again_value (Some f) tree.none = tt

@@ -1,9 +1,7 @@
-pub mod Functions
-pub mod Status
-pub mod Table
-pub mod Talk
-pub mod Worker
-pub mod Turns
 pub mod History
 pub mod Logs
 pub mod Stands
+pub mod Table
+pub mod Talk
+pub mod Turns
+pub mod Worker

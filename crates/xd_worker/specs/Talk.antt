@@ -15,7 +15,7 @@ use Rattle.xd_journal.specs.declared.news.What.TheVariants.{LogStart}
 use Rattle.xd_gateway.specs.Events.{event_tree}
 use Rattle.xd_worker.specs.declared.talk.Sent.{Sent}
 use Rattle.xd_worker.specs.declared.talk.Sent.TheVariants.{Said, LeftOut, Unwritten}
-use Rattle.xd_worker.specs.Status.{status_tree}
+use Rattle.xd_gateway.specs.Status.{status_tree}
 use Rattle.xd_factory.specs.SideTable.{ChannelTable, channel_table, changed_at, opened}
 
 -- the channels, and what was said so far

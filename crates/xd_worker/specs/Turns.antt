@@ -19,13 +19,13 @@ use Rattle.xd_run_tests.specs.declared.input.Input.{Input}
 use Rattle.xd_run_tests.specs.declared.input.Input.TheVariants as input
 use Rattle.xd_run_tests.specs.Turns.{CallTurn as Act}
 use Rattle.xd_run_tests.specs.History.{Given, turn_after}
-use Rattle.xd_worker.specs.declared.function.CallFault.{CallFault}
-use Rattle.xd_worker.specs.declared.function.Called.{Called}
-use Rattle.xd_worker.specs.declared.function.Called.TheVariants.{Runs, Refused}
-use Rattle.xd_worker.specs.declared.function.Function.TheVariants as function
+use Rattle.xd_gateway.specs.declared.function.CallFault.{CallFault}
+use Rattle.xd_gateway.specs.declared.function.Called.{Called}
+use Rattle.xd_gateway.specs.declared.function.Called.TheVariants.{Runs, Refused}
+use Rattle.xd_gateway.specs.declared.function.Function.TheVariants as function
 use Rattle.xd_worker.specs.declared.talk.Sent.{Sent}
 use Rattle.xd_worker.specs.declared.talk.Sent.TheVariants as how
-use Rattle.xd_worker.specs.Functions.{called_in, call_fault_text}
+use Rattle.xd_gateway.specs.Functions.{called_in, call_fault_text}
 use Rattle.xd_factory.specs.SideTable.{heard_of_message, answer, lost}
 use Rattle.xd_worker.specs.Talk.{Talk, sent, sent_how, payload_on, event_told, opening, log_closed, function_ended, function_begun, status_told}
 use Rattle.xd_worker.specs.Worker.{Service, WorkerTurn, running_in, executing, logs_opened_by}

@@ -3,19 +3,18 @@ ghost use Rattle.std.specs.Prelude.{◌≡◌, ℕ, IfOk, OnOk, Option, Some, No
 ghost use Rattle.xd_value.specs.View.{view};
 
 use super::WorkerCore;
-use crate::function::{CallFault, Called, Function, read_call};
 use crate::input::WorkerActions;
 use crate::talk::{Sent, begin_function, end_function, send, tell};
 use crate::tests_call::TestsCall;
-use crate::words::{fail_word, long_item_word};
 use xd_edge::{ModeKind, OutOfMemory, Text};
+use xd_gateway::{CallFault, Called, Function, fail_word, long_item_word, read_call};
 use xd_journal::What;
 use xd_run_tests::RunTests;
 use xd_value::Value;
 
 impl WorkerCore {
-    ghost use Rattle.xd_worker.specs.Functions.{called_in, call_fault_text};
-    ghost use Rattle.xd_worker.specs.declared.function.Called.TheVariants.{Runs};
+    ghost use Rattle.xd_gateway.specs.Functions.{called_in, call_fault_text};
+    ghost use Rattle.xd_gateway.specs.declared.function.Called.TheVariants.{Runs};
     ghost use Rattle.xd_worker.specs.Worker.{WorkerTurn};
     ghost use Rattle.xd_worker.specs.Turns.{refused, failed, echo_begun, tests_begun, called, is_called, without_one, echo_ended, echoed};
     ghost use Rattle.xd_worker.specs.Stands.{Stands};

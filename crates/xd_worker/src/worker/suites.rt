@@ -3,10 +3,9 @@ ghost use Rattle.std.specs.Prelude.{◌≡◌, ℕ, IfOk, OnOk, IsSome, length, 
 
 use super::WorkerCore;
 use crate::input::WorkerActions;
-use crate::words::{large_suite_word, unread_suite_word};
 use std::alloc::Global;
 use xd_edge::{Blob, OutOfMemory, Text, Texts};
-use xd_gateway::event_value;
+use xd_gateway::{event_value, large_suite_word, unread_suite_word};
 use xd_journal::{Outcome, What};
 use xd_run_tests::Input;
 use xd_suite::{Suite, SuiteRefusal};

@@ -1,6 +1,6 @@
 use Rattle.std.proofs.Common.{◌≡◌, refl, map}
 use Rattle.std.specs.Prelude.{option_map}
-use Rattle.xd_group.specs.Children.{told_of}
+use Rattle.xd_starts.specs.Children.{told_of}
 use Rattle.xd_link.specs.Spring.{spring}
 use Rattle.xd_linked.specs.Linked.{Setup, ended_link}
 use Rattle.xd_linked.proofs.Facts.{by_three}

@@ -1,8 +1,8 @@
 use Rattle.std.proofs.Common.{ap}
 use Rattle.std.proofs.Math.Logic.{∥∥₁_map}
 use Rattle.xd_note.specs.Noted.{noted}
-use Rattle.xd_group.specs.Children.{starts_told}
-use Rattle.xd_group.specs.PostView.{losses_of}
+use Rattle.xd_starts.specs.Children.{starts_told}
+use Rattle.xd_peer.specs.PeerView.{losses_of}
 use Rattle.xd_group.proofs.Killing.{kills_buried}
 use Rattle.xd_group.proofs.Stepping.{step_buried}
 use Rattle.xd_group.proofs.gateway_hub.GatewayHub.bury.Goals as goal
@@ -15,5 +15,5 @@ invariant_of-self g c =
     record {
       in_step = λ e. ∥∥₁_map (was.in_step e)
           (λ s. step_buried was.places.items (told was.children.first.value) _ (told was.children.starter) _ was.children.children.items _ (noted was.group.diary.calls) was.group.diary.fates.items (ap (λ (v : _). told v.value) done.first) done.starts done.children s);
-      kills = λ e. ∥∥₁_map (was.kills e) (λ k. kills_buried was.children.children.items _ (noted was.group.diary.calls) was.group.diary.workers.items was.group.diary.fates.items (losses_of was.group.posts.items) done.children k);
+      kills = λ e. ∥∥₁_map (was.kills e) (λ k. kills_buried was.children.children.items _ (noted was.group.diary.calls) was.group.diary.workers.items was.group.diary.fates.items (losses_of was.group.peers.items) done.children k);
     }

@@ -1,9 +1,9 @@
-use Rattle.xd_group.specs.PostView.{losses_of}
+use Rattle.xd_peer.specs.PeerView.{losses_of}
 use Rattle.xd_group.proofs.Killing.{kills_kill}
 use Rattle.std.proofs.Common.{ap, sym, ◌∙◌, refl}
 use Rattle.std.proofs.Math.Logic.{∥∥₁_map, ∥∥₁_map₂}
 use Rattle.xd_note.specs.Noted.{noted}
-use Rattle.xd_group.specs.Children.{starts_told}
+use Rattle.xd_starts.specs.Children.{starts_told}
 use Rattle.xd_journal.specs.declared.entry.Entry.TheVariants.{Kill}
 use Rattle.xd_group.proofs.Stepping.{step_called}
 use Rattle.xd_group.proofs.gateway_hub.GatewayHubHub.kill.Goals as goal
@@ -17,6 +17,6 @@ invariant_of-self g c =
       in_step = λ e. ∥∥₁_map (was.in_step (sym took.whole ∙ e))
           (λ s. step_called was.places.items (told was.children.first.value) _ (told was.children.starter) _ was.children.children.items _ (noted was.group.diary.calls) _ was.group.diary.fates.items _ c.kill-cut.result (Kill c.args.worker) took.called refl (ap (λ (v : _). v.items) took.starts.1) (ap (λ (v : _). told v.value) c.cut.ensures.first) c.cut.ensures.starts c.cut.ensures.children s);
       kills = λ e. ∥∥₁_map₂ (was.group.kept (sym took.whole ∙ e)) (was.kills (sym took.whole ∙ e))
-          (λ kept k. rw (took.starts.0, took.starts.1, took.posts)
-          (kills_kill was.children.children.items _ (noted was.group.diary.calls) _ was.group.diary.workers.items was.group.diary.fates.items (losses_of was.group.posts.items) c.args.worker c.kill-cut.result took.called c.requires.started took.some took.none kept.apart c.cut.ensures.children k));
+          (λ kept k. rw (took.starts.0, took.starts.1, took.peers)
+          (kills_kill was.children.children.items _ (noted was.group.diary.calls) _ was.group.diary.workers.items was.group.diary.fates.items (losses_of was.group.peers.items) c.args.worker c.kill-cut.result took.called c.requires.started took.some took.none kept.apart c.cut.ensures.children k));
     }

@@ -1,7 +1,7 @@
-use Rattle.xd_group.specs.PostView.{losses_of}
+use Rattle.xd_peer.specs.PeerView.{losses_of}
 use Rattle.std.specs.Prelude.{option_map}
 use Rattle.std.specs.Bool.{then_some}
-use Rattle.xd_group.specs.Children.{cut_by, fresh_child}
+use Rattle.xd_starts.specs.Children.{cut_by, fresh_child}
 use Rattle.xd_group.proofs.FateFacts.{linked_length}
 use Rattle.xd_group.proofs.Killing.{fresh_unkilled, kills_start}
 use Rattle.std.proofs.Common.{◌<◌, false, None, length, ap, sym, ◌∙◌, refl, rules, ◌≡◌}
@@ -9,7 +9,7 @@ use Rattle.std.specs.Prelude.{is_some}
 use Rattle.std.proofs.Math.Logic.{∥∥₁_map, ∥∥₁_map₂}
 use Rattle.std.proofs.lemmas.Option.{slice_get_read}
 use Rattle.xd_note.specs.Noted.{noted}
-use Rattle.xd_group.specs.Children.{starts_told}
+use Rattle.xd_starts.specs.Children.{starts_told}
 use Rattle.xd_group.specs.declared.fate.Fate.TheVariants.{Unlinked}
 use Rattle.xd_group.proofs.LossFacts.{lost_count}
 use Rattle.xd_group.proofs.Stepping.{step_opened, when_whole}
@@ -31,10 +31,10 @@ invariant_of-self-in-Some g c =
           took.called took.fates kid.child.1 c.cut.ensures.children (ap is_some c.in-Some.is ∙ sym took.started) at kid.starts c.cut.ensures.starts (ap (λ (v : _). told v.value) (c.cut.ensures.first ∙ kid.first)) s);
       kills = λ e. ∥∥₁_map₂ (was.in_step (sym took.whole ∙ e)) (was.kills (sym took.whole ∙ e))
           (λ s k. let fates = linked_length was.children.children.items was.group.diary.fates.items s.linked in
-          kills_start was.children.children.items _ (noted was.group.diary.calls) _ was.group.diary.workers.items _ was.group.diary.fates.items _ (losses_of was.group.posts.items) _ c.args.worker c.args.slot (option_map (λ o. fresh_child kid.child.0) c.in_ok-opened.field-0) seat.fate seat.is_cut took.cut.0
+          kills_start was.children.children.items _ (noted was.group.diary.calls) _ was.group.diary.workers.items _ was.group.diary.fates.items _ (losses_of was.group.peers.items) _ c.args.worker c.args.slot (option_map (λ o. fresh_child kid.child.0) c.in_ok-opened.field-0) seat.fate seat.is_cut took.cut.0
           took.called c.requires.new took.workers took.fates took.cut.1 took.cut.2
           (c.cut.ensures.children ∙ (ap (λ (r : _). cut_by r c.start.new.self.children.items) (c.cut_of.ensures ∙ ap (then_some seat.is_cut) number) ∙ ap (cut_by (then_some seat.is_cut (length was.children.children.items))) kid.child.1))
-          (fresh_unkilled c.in_ok-opened.field-0 kid.child.0) (sym was.group.diary.matched ∙ sym fates) (sym fates) (lost_count was.group.posts.items was.group.diary.fates.items (was.group.seats (sym took.whole ∙ e)) ∙ sym fates) k);
+          (fresh_unkilled c.in_ok-opened.field-0 kid.child.0) (sym was.group.diary.matched ∙ sym fates) (sym fates) (lost_count was.group.peers.items was.group.diary.fates.items (was.group.seats (sym took.whole ∙ e)) ∙ sym fates) k);
     }
 
 pub invariant_of-self-in-None : goal.invariant_of-self-in-None
@@ -51,7 +51,7 @@ invariant_of-self-in-None g c =
           (when_whole c.skip.result _ _ took.called took.over e) (when_whole c.skip.result _ _ took.fates took.over e) kid.child.1 refl (ap is_some c.in-None.is) at kid.starts refl (ap (λ (v : _). told v.value) kid.first) s);
       kills = λ e. ∥∥₁_map₂ (was.in_step (sym (when_whole c.skip.result _ _ took.whole took.over e) ∙ e)) (was.kills (sym (when_whole c.skip.result _ _ took.whole took.over e) ∙ e))
           (λ s k. let fates = linked_length was.children.children.items was.group.diary.fates.items s.linked in
-          kills_start was.children.children.items _ (noted was.group.diary.calls) _ was.group.diary.workers.items _ was.group.diary.fates.items _ (losses_of was.group.posts.items) _ c.args.worker c.args.slot (option_map (λ o. fresh_child kid.child.0) c.in_ok-opened.field-0) Unlinked false false
+          kills_start was.children.children.items _ (noted was.group.diary.calls) _ was.group.diary.workers.items _ was.group.diary.fates.items _ (losses_of was.group.peers.items) _ c.args.worker c.args.slot (option_map (λ o. fresh_child kid.child.0) c.in_ok-opened.field-0) Unlinked false false
           (when_whole c.skip.result _ _ took.called took.over e) c.requires.new (when_whole c.skip.result _ _ took.workers took.over e) (when_whole c.skip.result _ _ took.fates took.over e) (when_whole c.skip.result _ _ took.lost took.over e) refl kid.child.1
-          (fresh_unkilled c.in_ok-opened.field-0 kid.child.0) (sym was.group.diary.matched ∙ sym fates) (sym fates) (lost_count was.group.posts.items was.group.diary.fates.items (was.group.seats (sym (when_whole c.skip.result _ _ took.whole took.over e) ∙ e)) ∙ sym fates) k);
+          (fresh_unkilled c.in_ok-opened.field-0 kid.child.0) (sym was.group.diary.matched ∙ sym fates) (sym fates) (lost_count was.group.peers.items was.group.diary.fates.items (was.group.seats (sym (when_whole c.skip.result _ _ took.whole took.over e) ∙ e)) ∙ sym fates) k);
     }

@@ -4,13 +4,13 @@ use Rattle.xd_links.specs.Runs.{news_of}
 use Rattle.xd_post.specs.Mails.{mails}
 use Rattle.xd_group.specs.Late.{Late, Settled}
 use Rattle.xd_group.specs.Kills.{KeepsLost}
-use Rattle.xd_group.specs.PostView.{losses_of, pages_of}
+use Rattle.xd_peer.specs.PeerView.{losses_of, pages_of}
 use Rattle.xd_group.proofs.group.Group.drain.Given as goal
 
 abbrev pub invariant-loop : goal.invariant-loop
 invariant-loop g l = record {
-  late : (first : List (Option Settled)) → ∥ Late first (news_of (mails l.fn.links.desk)) (pages_of l.fn.posts.items) ∥₁ → ∥ Late first (news_of (mails l.links.desk)) (pages_of l.posts.items) ∥₁;
-  seats : map is_some (pages_of l.posts.items) ≡ map is_some (pages_of l.fn.posts.items);
-  keeps : KeepsLost (losses_of l.fn.posts.items) (losses_of l.posts.items);
+  late : (first : List (Option Settled)) → ∥ Late first (news_of (mails l.fn.links.desk)) (pages_of l.fn.peers.items) ∥₁ → ∥ Late first (news_of (mails l.links.desk)) (pages_of l.peers.items) ∥₁;
+  seats : map is_some (pages_of l.peers.items) ≡ map is_some (pages_of l.fn.peers.items);
+  keeps : KeepsLost (losses_of l.fn.peers.items) (losses_of l.peers.items);
   crew : l.links.crew ≡ l.fn.links.crew;
 }

@@ -2,7 +2,7 @@ use Rattle.std.proofs.Common.{ap, arith, map, sym, ◌∙◌, Some}
 use Rattle.std.specs.Prelude.{is_some}
 use Rattle.xd_note.specs.Noted.{noted}
 use Rattle.xd_group.specs.Late.{settled_at}
-use Rattle.xd_group.specs.PostView.{ends_of}
+use Rattle.xd_peer.specs.PeerView.{ends_of}
 use Rattle.xd_group.specs.declared.fate.Fate.TheVariants.{Linked, Refused}
 use Rattle.xd_group.proofs.Ending.{linked_so, unused_so}
 use Rattle.xd_group.proofs.FateFacts.{not_within, so_past}
@@ -25,7 +25,7 @@ returns-in-Unlinked-clause-ending g c b going =
       said = going.said;
       late = going.late;
       spared = so_past Refused c.args.number (map is_some was.spares.items) _ was.diary.fates.items (λ k h e. e) going.spared;
-      ended = so_past Linked c.args.number (ends_of was.posts.items) _ was.diary.fates.items (λ k h e. e) going.ended;
+      ended = so_past Linked c.args.number (ends_of was.peers.items) _ was.diary.fates.items (λ k h e. e) going.ended;
       lost = λ k h e. going.lost k (omega (arith, h)) e;
     }
 
@@ -37,7 +37,7 @@ returns-in-Refused-clause-ending g c b going =
       said = going.said;
       late = going.late;
       spared = so_past Refused c.args.number (map is_some was.spares.items) _ was.diary.fates.items c.end_spare-kept.ensures.others going.spared;
-      ended = so_past Linked c.args.number (ends_of was.posts.items) _ was.diary.fates.items (λ k h e. e) going.ended;
+      ended = so_past Linked c.args.number (ends_of was.peers.items) _ was.diary.fates.items (λ k h e. e) going.ended;
       lost = λ k h e. going.lost k (omega (arith, h)) e;
     }
 
@@ -50,7 +50,7 @@ returns-in-Linked-clause-ending g c b going =
       said = going.said;
       late = done.late (map settled_at b.pages) going.late;
       spared = so_past Refused c.args.number (map is_some was.spares.items) _ was.diary.fates.items (λ k h e. e) going.spared;
-      ended = so_past Linked c.args.number (ends_of was.posts.items) _ was.diary.fates.items done.others.1 going.ended;
+      ended = so_past Linked c.args.number (ends_of was.peers.items) _ was.diary.fates.items done.others.1 going.ended;
       lost = λ k h e. done.others.0 k (omega (arith, h)) (going.lost k (omega (arith, h)) e);
     }
 

@@ -2,7 +2,7 @@ use Rattle.std.proofs.Math.Logic.{∥∥₁_map}
 use Rattle.xd_links.specs.Runs.{news_of}
 use Rattle.xd_note.specs.Noted.{noted}
 use Rattle.xd_post.specs.Mails.{mails}
-use Rattle.xd_group.specs.PostView.{pages_of}
+use Rattle.xd_peer.specs.PeerView.{pages_of}
 use Rattle.std.proofs.Common.{refl}
 use Rattle.xd_journal.specs.declared.entry.Entry.TheVariants.{Kill}
 use Rattle.xd_group.proofs.Keeping.{kept_called}
@@ -15,7 +15,7 @@ invariant_of-self g c =
       short = was.short;
       kept = λ e. ∥∥₁_map (was.kept e)
           (λ k. rw (c.note_call.ensures.given, c.note_call.ensures.workers)
-          (kept_called was.suite was.mode (news_of (mails was.links.desk)) (noted was.diary.calls) _ (noted was.diary.given) was.diary.workers.items (pages_of was.posts.items) (Kill c.args.worker) c.note_call.ensures.calls (λ v. refl) (λ v. refl) k));
+          (kept_called was.suite was.mode (news_of (mails was.links.desk)) (noted was.diary.calls) _ (noted was.diary.given) was.diary.workers.items (pages_of was.peers.items) (Kill c.args.worker) c.note_call.ensures.calls (λ v. refl) (λ v. refl) k));
       few = λ e. rw (c.note_call.ensures.fates) (was.few e);
       seats = λ e. rw (c.note_call.ensures.fates) (was.seats e);
       spared = λ e. rw (c.note_call.ensures.fates) (was.spared e);

@@ -6,7 +6,7 @@ use Rattle.xd_note.specs.Noted.{noted}
 use Rattle.xd_post.specs.Mails.{mails}
 use Rattle.xd_journal.specs.declared.news.News.{News}
 use Rattle.xd_journal.specs.declared.news.What.TheVariants.{NotStarted}
-use Rattle.xd_group.specs.PostView.{pages_of}
+use Rattle.xd_peer.specs.PeerView.{pages_of}
 use Rattle.xd_group.proofs.Keeping.{kept_unlinked}
 use Rattle.xd_group.proofs.Saying.{unsaid_said, waits_unread, waits_within}
 use Rattle.xd_group.proofs.group.Group.next_unlinked.Goals as goal
@@ -15,7 +15,7 @@ pub unreachable-requires : goal.unreachable-requires
 unreachable-requires g c =
     let was = c.args.self.now in
     let took = c.in-Some.ensures in
-    waits_within (noted was.diary.given) was.diary.workers.items (pages_of was.posts.items) was.diary.waiting.items _ c.in-Some.number took.waiting (was.unsaid c.if-not-self.false) (rw (← took.workers) c.in_default-worker_at.ensures.none)
+    waits_within (noted was.diary.given) was.diary.workers.items (pages_of was.peers.items) was.diary.waiting.items _ c.in-Some.number took.waiting (was.unsaid c.if-not-self.false) (rw (← took.workers) c.in_default-worker_at.ensures.none)
 
 pub invariant_of-self-2 : goal.invariant_of-self-2
 invariant_of-self-2 g c =
@@ -28,15 +28,15 @@ invariant_of-self-2 g c =
       short = was.short;
       kept = λ e. ∥∥₁_map₂ (was.kept e) (was.unsaid e)
           (λ k u. rw (told.calls, told.workers, took.calls, took.workers)
-          (kept_unlinked was.suite was.mode (news_of (mails was.links.desk)) (noted was.diary.calls) (noted was.diary.given) _ was.diary.workers.items (pages_of was.posts.items) c.in-Some.number n refl
+          (kept_unlinked was.suite was.mode (news_of (mails was.links.desk)) (noted was.diary.calls) (noted was.diary.given) _ was.diary.workers.items (pages_of was.peers.items) c.in-Some.number n refl
           (told.given ∙ ap (λ (l : List News). l ++ n ∷ []) took.given)
-          at (rw (← took.calls) c.in-Some-worker_at.ensures.started) (waits_unread (noted was.diary.given) was.diary.workers.items (pages_of was.posts.items) was.diary.waiting.items _ c.in-Some.number n.worker took.waiting at u) k));
+          at (rw (← took.calls) c.in-Some-worker_at.ensures.started) (waits_unread (noted was.diary.given) was.diary.workers.items (pages_of was.peers.items) was.diary.waiting.items _ c.in-Some.number n.worker took.waiting at u) k));
       few = λ e. rw (told.fates, took.fates) (was.few e);
       seats = λ e. rw (told.fates, took.fates) (was.seats e);
       spared = λ e. rw (told.fates, took.fates) (was.spared e);
       unsaid = λ e. ∥∥₁_map₂ (was.kept e) (was.unsaid e)
           (λ k u. rw (told.workers, took.workers, told.waiting)
-          (unsaid_said (noted was.diary.given) _ was.diary.workers.items (pages_of was.posts.items) was.diary.waiting.items _ c.in-Some.number n refl
+          (unsaid_said (noted was.diary.given) _ was.diary.workers.items (pages_of was.peers.items) was.diary.waiting.items _ c.in-Some.number n refl
           (told.given ∙ ap (λ (l : List News). l ++ n ∷ []) took.given) took.waiting at k.apart u));
     }
 

@@ -2,14 +2,14 @@ use Rattle.std.proofs.Math.Logic.{∥∥₁_map, ∥∥₁_map₂}
 use Rattle.xd_links.specs.Runs.{news_of}
 use Rattle.xd_note.specs.Noted.{noted}
 use Rattle.xd_post.specs.Mails.{mails}
-use Rattle.xd_group.specs.PostView.{pages_of}
+use Rattle.xd_peer.specs.PeerView.{pages_of}
 use Rattle.std.proofs.Common.{◌≡◌, ap, length, map, rules}
 use Rattle.std.specs.Prelude.{is_none, is_some}
 use Rattle.xd_group.specs.Fates.{is_linked}
 use Rattle.xd_group.proofs.Counting.{few_opened}
 use Rattle.xd_group.proofs.FateFacts.{spared_more}
 use Rattle.xd_group.proofs.Keeping.{kept_started}
-use Rattle.xd_group.proofs.LossFacts.{post_count}
+use Rattle.xd_group.proofs.LossFacts.{peer_count}
 use Rattle.xd_group.proofs.Saying.{opened_seats, unsaid_opened}
 use Rattle.xd_group.proofs.group.Group.open.Goals as goal
 
@@ -20,18 +20,18 @@ invariant_of-self-2 g c =
     let told = c.in_ok-note_start.ensures in
     let last = c.in_ok-note_unlinked.ensures in
     let seat = c.in_ok-seat.ensures in
-    let at : c.in-Ok.number ≡ length was.posts.items = search rules in
+    let at : c.in-Ok.number ≡ length was.peers.items = search rules in
     record {
       short = was.short;
       kept = λ e. ∥∥₁_map (was.kept e)
           (λ k. rw (last.calls, last.given, last.workers, told.given)
-          (kept_started was.suite was.mode (news_of (mails was.links.desk)) _ (noted was.diary.calls) _ (noted was.diary.given) was.diary.workers.items _ (pages_of was.posts.items) _ c.args.worker c.args.slot none
+          (kept_started was.suite was.mode (news_of (mails was.links.desk)) _ (noted was.diary.calls) _ (noted was.diary.given) was.diary.workers.items _ (pages_of was.peers.items) _ c.args.worker c.args.slot none
           told.calls c.requires.new was.diary.known told.workers (c.in_ok-back.ensures.news was.suite was.mode) seat.pages k));
       few = λ e. rw (last.fates) (few_opened was.diary.fates.items _ c.in_ok-seat.seat.fate none _ _ _ told.fates seat.linked seat.started c.in_ok-back.ensures.crew (was.few e));
-      seats = λ e. rw (last.fates) (opened_seats was.suite was.mode none (pages_of was.posts.items) _ was.diary.fates.items _ c.in_ok-seat.seat.fate seat.pages told.fates seat.linked (was.seats e));
+      seats = λ e. rw (last.fates) (opened_seats was.suite was.mode none (pages_of was.peers.items) _ was.diary.fates.items _ c.in_ok-seat.seat.fate seat.pages told.fates seat.linked (was.seats e));
       spared = λ e. rw (last.fates) (spared_more (map is_some was.spares.items) _ was.diary.fates.items _ c.in_ok-seat.seat.fate seat.kept told.fates (was.spared e));
       unsaid = λ e. ∥∥₁_map₂ (was.kept e) (was.unsaid e)
           (λ k u. rw (last.given, last.workers, told.given)
-          (unsaid_opened was.suite was.mode (news_of (mails was.links.desk)) (noted was.diary.calls) (noted was.diary.given) was.diary.workers.items _ (pages_of was.posts.items) _ was.diary.waiting.items _ _ c.args.worker c.in-Ok.number (is_linked c.in_ok-seat.seat.fate) none
-          told.workers seat.pages last.waiting (ap (λ (v : _). v.items) told.waiting) seat.linked (post_count was.posts.items c.in-Ok.number at) c.requires.new k u));
+          (unsaid_opened was.suite was.mode (news_of (mails was.links.desk)) (noted was.diary.calls) (noted was.diary.given) was.diary.workers.items _ (pages_of was.peers.items) _ was.diary.waiting.items _ _ c.args.worker c.in-Ok.number (is_linked c.in_ok-seat.seat.fate) none
+          told.workers seat.pages last.waiting (ap (λ (v : _). v.items) told.waiting) seat.linked (peer_count was.peers.items c.in-Ok.number at) c.requires.new k u));
     }

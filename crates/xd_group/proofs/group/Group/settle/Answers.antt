@@ -6,7 +6,7 @@ use Rattle.xd_links.specs.Runs.{news_of}
 use Rattle.xd_note.specs.Noted.{noted}
 use Rattle.xd_post.specs.Mails.{mails}
 use Rattle.xd_group.specs.Late.{settled_at}
-use Rattle.xd_group.specs.PostView.{pages_of}
+use Rattle.xd_peer.specs.PeerView.{pages_of}
 use Rattle.xd_group.proofs.EndFacts.{ended_from, said_lost}
 use Rattle.xd_group.proofs.Ending.{late_begun}
 use Rattle.xd_group.proofs.FateFacts.{spared_from}
@@ -17,9 +17,9 @@ drain-requires g c =
     let was = c.args.self.now in
     record {
       late = (
-        map settled_at (pages_of was.posts.items),
+        map settled_at (pages_of was.peers.items),
         ∥∥₁_map (was.kept c.if-not-self.false)
-            (λ k. late_begun was.suite was.mode (news_of (mails was.links.desk)) (noted was.diary.calls) (noted was.diary.given) was.diary.workers.items (pages_of was.posts.items) k),
+            (λ k. late_begun was.suite was.mode (news_of (mails was.links.desk)) (noted was.diary.calls) (noted was.diary.given) was.diary.workers.items (pages_of was.peers.items) k),
       );
     }
 
@@ -30,9 +30,9 @@ returns-clause-ending g c =
     let done = c.in_ok-drain.ensures in
     record {
       kept = was.kept whole;
-      said = λ k w at is h. ∥∥₁_elim (was.kept whole) (hlevel props) (λ kept. said_lost was.suite was.mode (news_of (mails was.links.desk)) (noted was.diary.calls) (noted was.diary.given) was.diary.workers.items was.posts.items was.diary.fates.items k w kept (was.seats whole) at is h);
-      late = done.late (map settled_at (pages_of was.posts.items))
-          (∥∥₁_map (was.kept whole) (λ k. late_begun was.suite was.mode (news_of (mails was.links.desk)) (noted was.diary.calls) (noted was.diary.given) was.diary.workers.items (pages_of was.posts.items) k));
+      said = λ k w at is h. ∥∥₁_elim (was.kept whole) (hlevel props) (λ kept. said_lost was.suite was.mode (news_of (mails was.links.desk)) (noted was.diary.calls) (noted was.diary.given) was.diary.workers.items was.peers.items was.diary.fates.items k w kept (was.seats whole) at is h);
+      late = done.late (map settled_at (pages_of was.peers.items))
+          (∥∥₁_map (was.kept whole) (λ k. late_begun was.suite was.mode (news_of (mails was.links.desk)) (noted was.diary.calls) (noted was.diary.given) was.diary.workers.items (pages_of was.peers.items) k));
       spared = spared_from (map is_some was.spares.items) was.diary.fates.items (was.spared whole);
       ended = ended_from _ was.diary.fates.items (done.seats ∙ was.seats whole) done.ended;
       lost = λ k h e. done.keeps k e;

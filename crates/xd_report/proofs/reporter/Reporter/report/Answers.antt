@@ -7,8 +7,9 @@ use Rattle.xd_ledger.specs.Plan.{base}
 use Rattle.xd_ledger.specs.Results.{completed_first}
 use Rattle.xd_ledger.specs.Table.{at_seat}
 use Rattle.xd_ledger.specs.Workers.{slot_of}
-use Rattle.xd_report.specs.declared.holder.Holder.{Holder}
-use Rattle.xd_report.specs.Follows.{bare_seat, seat_of_holder}
+use Rattle.xd_held.specs.declared.holder.Holder.{Holder}
+use Rattle.xd_held.specs.Holders.{seat_of_holder}
+use Rattle.xd_report.specs.Follows.{bare_seat}
 use Rattle.xd_report.proofs.Kept.{changed_kept, named}
 use Rattle.xd_report.proofs.reporter.Reporter.report.Goals as goal
 

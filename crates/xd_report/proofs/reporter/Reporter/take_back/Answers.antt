@@ -6,8 +6,8 @@ use Rattle.xd_ledger.specs.Numbers.{without}
 use Rattle.xd_ledger.specs.Plan.{items_named}
 use Rattle.xd_ledger.specs.Table.{at_seat}
 use Rattle.xd_ledger.specs.Workers.{slot_of}
-use Rattle.xd_report.specs.declared.holder.Holder.{Holder}
-use Rattle.xd_report.specs.Follows.{seat_of_holder}
+use Rattle.xd_held.specs.declared.holder.Holder.{Holder}
+use Rattle.xd_held.specs.Holders.{seat_of_holder}
 use Rattle.xd_report.proofs.Kept.{changed_kept}
 use Rattle.xd_report.proofs.reporter.Reporter.take_back.Goals as goal
 

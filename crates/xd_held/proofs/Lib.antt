@@ -1,0 +1,2 @@
+pub mod HolderFacts
+pub mod Rising

@@ -1,6 +1,0 @@
-use Rattle.std.proofs.Common.{◌≡◌, drop}
-use Rattle.xd_ledger.specs.Collections.{listed_in}
-use Rattle.xd_ledger.proofs.listing.listed_in.Given as goal
-
-abbrev pub invariant-loop-listed : goal.invariant-loop-listed
-invariant-loop-listed l = listed_in l.slot l.lists ≡ listed_in l.slot (drop l.listed-index l.lists)

@@ -1,6 +1,0 @@
-use Rattle.std.proofs.Common.{◌≡◌, drop}
-use Rattle.xd_ledger.specs.Workers.{slot_in}
-use Rattle.xd_ledger.proofs.marks.slot_in.Given as goal
-
-abbrev pub invariant-loop-member : goal.invariant-loop-member
-invariant-loop-member l = slot_in l.worker l.members ≡ slot_in l.worker (drop l.member-index l.members)

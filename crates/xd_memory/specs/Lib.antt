@@ -1,0 +1,5 @@
+pub mod FreshPair
+pub mod MemChildren
+pub mod MemSink
+pub mod MemSource
+pub mod MemStarter

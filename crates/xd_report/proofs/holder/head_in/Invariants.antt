@@ -1,7 +1,0 @@
-use Rattle.std.proofs.Common.{◌≡◌, drop, map}
-use Rattle.xd_ledger.specs.Table.{held_in}
-use Rattle.xd_report.specs.Follows.{seat_of_holder}
-use Rattle.xd_report.proofs.holder.head_in.Given as goal
-
-abbrev pub invariant-loop-holder : goal.invariant-loop-holder
-invariant-loop-holder l = held_in l.worker (map seat_of_holder l.rota) ≡ held_in l.worker (map seat_of_holder (drop l.holder-index l.rota))

@@ -1,0 +1,4 @@
+pub mod Compares
+pub mod Deaths
+pub mod Loops
+pub mod Places

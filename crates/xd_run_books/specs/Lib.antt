@@ -1,0 +1,4 @@
+pub mod Books
+pub mod Compared
+pub mod Kept
+pub mod Known

@@ -1,0 +1,23 @@
+use Rattle.std.proofs.Common.{refl}
+use Rattle.std.proofs.Math.Logic.{∥∥₁_map}
+use Rattle.xd_starts.specs.Children.{reaped_child}
+use Rattle.xd_starts.proofs.Asking.{changed_set, few_changed, none_changed, reaped_again, tells_reaped}
+use Rattle.xd_starts.proofs.children.Children.reap.Goals as goal
+
+pub returns-in_default-clause-children : goal.returns-in_default-clause-children
+returns-in_default-clause-children g c = none_changed c.args.self.now.children.items c.args.number reaped_child c.in_default.ensures.none
+
+pub returns-then-child-clause-children : goal.returns-then-child-clause-children
+returns-then-child-clause-children g c = reaped_again c.args.self.now.children.items c.args.number c.in-Some.child c.in-Some.ensures.some c.if-child.true
+
+pub invariant_of-self : goal.invariant_of-self
+invariant_of-self g c =
+    let was = c.args.self.now in
+    let at = c.in-Some.ensures.some in
+    record {
+      told = ∥∥₁_map was.told (λ t. tells_reaped (g.St.Starter.begun was.first.value) (g.St.Starter.begun was.starter) _ was.children.items _ c.args.number c.in-Some.child at c.if-child.false refl c.reap-reaped.ensures.reaped t);
+      few = few_changed was.children.items _ c.args.number _ _ _ c.in-Some.child reaped_child at refl c.reap-reaped.ensures.counted.later was.few;
+    }
+
+pub returns-clause-children : goal.returns-clause-children
+returns-clause-children g c = changed_set c.args.self.now.children.items c.args.number c.in-Some.child reaped_child c.in-Some.ensures.some

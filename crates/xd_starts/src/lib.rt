@@ -1,0 +1,8 @@
+//! The starts of links, by their numbers, and the child of each: it is killed, and waited for.
+#![tactic(auto)]
+
+mod child;
+mod children;
+
+pub use child::Child;
+pub use children::{Children, Opened};
