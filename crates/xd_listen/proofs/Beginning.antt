@@ -70,29 +70,19 @@ module _ (held : Option Held) (sunk0 sunk : Option Sunk) (faults0 faults files :
 
   first_serves : (mails : List (Option (Ring × List LinkNews))) → broken ≡ false → StandsFor core [] → Spoke held [] [] (not broken) (voice sunk0 faults0 files) (voice sunk faults files) → mails ≡ two place [] [] → ServesSoFar place (beside files clock) nothing (at_first mails [])
   first_serves mails whole stands spoke are = record {
-    inputs = [];
-    history = [];
-    of_reader = [];
-    of_runner = [];
-    left = [];
-    spoke = spoke;
-    stands = stands;
-    path_is = refl;
-    mails_are = are;
-    from_link = record { got_is = refl; none_last = refl; no_end = refl };
-    noted = tt;
-    from_programs = refl;
-    commands = refl;
-    settled = λ z. refl;
-    last = λ z. refl;
-    whole = λ z. whole;
-    count = refl;
-    timed = refl;
-    some = tt;
-    ring = refl;
-    runs = refl;
-    reads = tt;
-    stopped = refl;
+    heard = record {
+      inputs = [];
+      history = [];
+      of_reader = [];
+      spoke = spoke;
+      stands = stands;
+      path_is = refl;
+      from_link = record { got_is = refl; none_last = refl; no_end = refl };
+      stopped = refl;
+    };
+    ordered = record { each = refl; timed = refl; some = tt; ring = refl };
+    left = record { commands = refl; whole = λ z. whole; runs = refl; reads = tt };
+    taken = record { mails_are = are; noted = tt };
   }
 
   pub begun : (mails : List (Option (Ring × List LinkNews))) (orders : List (List (List ℕ))) → broken ≡ false → StandsFor core [] → Spoke held [] [] (not broken) (voice sunk0 faults0 files) (voice sunk faults files) → mails ≡ two place [] [] → orders ≡ []

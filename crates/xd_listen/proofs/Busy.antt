@@ -1,5 +1,5 @@
 -- What an input makes of a worker whose test runs: the test runs on, and none is started.
-use Rattle.std.proofs.Common.{◌≡◌, ℕ, zero, suc, ◌+◌, List, [], ◌∷◌, ◌++◌, take, drop, Bool, true, false, Option, Some, None, refl, ap, sym, ◌∙◌, subst, ◌<◌, arith}
+use Rattle.std.proofs.Common.{◌≡◌, ℕ, ◌+◌, List, [], ◌∷◌, ◌++◌, take, drop, Bool, true, false, Option, Some, None, refl, ap, sym, ◌∙◌, subst, arith}
 use Rattle.std.specs.Prelude.{map, if◌then◌else◌}
 use Rattle.std.specs.List.{range_with_len}
 use Rattle.xd_value.specs.Tree.{Tree}
@@ -19,7 +19,6 @@ use Rattle.xd_run_tests.specs.declared.phase.Ending.TheVariants.{BadCommand, Rec
 use Rattle.xd_run_tests.specs.declared.phase.Phase.{Phase}
 use Rattle.xd_run_tests.specs.declared.phase.Phase.TheVariants.{Awaiting, Serving, Stopped, Over}
 use Rattle.xd_run_tests.specs.declared.phase.Phase.TheVariants as phase
-use Rattle.xd_run_tests.specs.declared.ask.Ask.{Ask}
 use Rattle.xd_run_tests.specs.declared.ask.Ask.TheVariants.{Tell}
 use Rattle.xd_run_tests.specs.declared.input.Input.{Input}
 use Rattle.xd_run_tests.specs.declared.input.Input.TheVariants as input
@@ -38,16 +37,15 @@ use Rattle.xd_worker.specs.Worker.{Service, Worker, WorkerTurn, worker_turn_of}
 use Rattle.xd_worker.specs.Turns.{Told, LinkEnded, at_talk, given_in, fed, fed_to, called, is_called, is_service, echoed, echoed_how, echo_ended, worker_stopped, did, did_unless, took, worker_turned}
 use Rattle.xd_listen.specs.Running.{call_of_service, rests}
 use Rattle.xd_listen.specs.Inputs.{is_terminate_kind}
+use Rattle.xd_listen.proofs.Calls.{head_front, head_more, lined}
 use Rattle.xd_listen.proofs.Facts.{running_some}
 use Rattle.xd_listen.proofs.Steps.{all_same, acted_turn, answer_last, kind_last, is_terminate}
 
 -- ---- a call of `run_tests`
 
 -- This test runs, and none is started.
-pub record Busy (n : ℕ) (t : Act) : Type 0 where
-  pub test : running_test t.call ≡ Some n
-  pub run : t.run ≡ None
-  pub busy : rests t.call.phase ≡ false
+abbrev pub Busy : ℕ → Act → Type 0
+Busy n t = record { test : running_test t.call ≡ Some n; run : t.run ≡ None; busy : rests t.call.phase ≡ false }
 
 early_busy : (n : ℕ) (t : Act) (e : Ending) → Busy n t → Busy n (ended_early e t)
 early_busy n t e f = go t.call.running (running_some t.call n f.test)
@@ -62,24 +60,6 @@ settled_busy n room t f = go t.call.running (running_some t.call n f.test)
     go : (b : Bool) → b ≡ true → Busy n (if b then t else moved_on room (left t.call) t)
     go true h = f
     go false h = cc
-
-head_more : (e : ℕ) (l more : List LineEntry) (n : ℕ) → head_test (drop e l) ≡ Some n → head_test (drop e (l ++ more)) ≡ Some n
-head_more zero [] more n h = cc
-head_more zero (Test k ∷ l) more n h = h
-head_more zero (Mark ∷ l) more n h = cc
-head_more (suc e) [] more n h = cc
-head_more (suc e) (p ∷ l) more n h = head_more e l more n h
-
-head_front : (e k : ℕ) (l more : List LineEntry) (n : ℕ) → e < k → head_test (drop e l) ≡ Some n → head_test (drop e (take k l ++ more)) ≡ Some n
-head_front e zero l more n lt h = absurd (omega (arith, lt))
-head_front zero (suc k) [] more n lt h = cc
-head_front zero (suc k) (Test m ∷ l) more n lt h = h
-head_front zero (suc k) (Mark ∷ l) more n lt h = cc
-head_front (suc e) (suc k) [] more n lt h = cc
-head_front (suc e) (suc k) (p ∷ l) more n lt h = head_front e k l more n (omega (arith, lt)) h
-
-abbrev lined : List LineEntry → Act → Act
-lined ps t = record t { call = record (t.call) { line = ps } }
 
 run_if : (b : Bool) (x : Option ℕ) (n : ℕ) → (if b then x else None) ≡ Some n → x ≡ Some n
 run_if true x n e = e
@@ -106,9 +86,6 @@ front_busy n t ps f = lined_busy n t (front t.call ++ ps) f (λ h. go t.call.run
     go true r h = head_front t.call.ended (t.call.ended + 2) t.call.line ps n (omega arith) h
     go false r h = cc
 
-asking_busy : (n : ℕ) (t : Act) (asks : List Ask) → Busy n t → Busy n (asking asks t)
-asking_busy n t asks f = record { test = f.test; run = f.run; busy = f.busy }
-
 given_busy : (n : ℕ) (room : Bool) (ns : List ℕ) (t : Act) → Busy n t → Busy n (given room ns t)
 given_busy n room ns t f = go (can_give t.call.size t.call.line ns)
   where
@@ -120,8 +97,8 @@ stolen_busy : (n : ℕ) (ns : List ℕ) (t : Act) → Busy n t → Busy n (stole
 stolen_busy n ns t f = go (all_queued (queue t.call) ns)
   where
     go : (b : Bool) → Busy n (if b then asking (Tell (Back (taken ns (queue t.call))) ∷ []) (lined (front t.call ++ kept ns (queue t.call)) t) else asking (Tell (Back []) ∷ []) t)
-    go true = asking_busy n (lined (front t.call ++ kept ns (queue t.call)) t) (Tell (Back (taken ns (queue t.call))) ∷ []) (front_busy n t (kept ns (queue t.call)) f)
-    go false = asking_busy n t (Tell (Back []) ∷ []) f
+    go true = front_busy n t (kept ns (queue t.call)) f
+    go false = f
 
 stolen_if_busy : (n : ℕ) (ns : List ℕ) (t : Act) → Busy n t → Busy n (stolen_if ns t)
 stolen_if_busy n ns t f = go (can_ask t.call.size [] ns)
@@ -167,12 +144,14 @@ stop_spares = record { busy = λ room c n e r. record { test = e; run = refl; bu
 -- ---- the worker
 
 -- The test runs on, none is started, and no suite is asked for.
-pub record Keeps (n : ℕ) (last : Bool) (u : WorkerTurn) : Type 0 where
-  pub test : running_test (call_of_service u.duties.service) ≡ Some n
-  pub busy : rests (call_of_service u.duties.service).phase ≡ false
-  pub run : u.run ≡ None
-  pub suite : u.suite ≡ None
-  pub stopped : u.duties.stopped ≡ last
+abbrev pub Keeps : ℕ → Bool → WorkerTurn → Type 0
+Keeps n last u = record {
+  test : running_test (call_of_service u.duties.service) ≡ Some n;
+  busy : rests (call_of_service u.duties.service).phase ≡ false;
+  run : u.run ≡ None;
+  suite : u.suite ≡ None;
+  stopped : u.duties.stopped ≡ last;
+}
 
 fed_keeps : (i : Input) (k n : ℕ) (last : Bool) (t : WorkerTurn) → Spares i → Keeps n last t → Keeps n last (fed i k t)
 fed_keeps i k n last t spares f = go t.duties.service refl
@@ -187,15 +166,15 @@ fed_keeps i k n last t spares f = go t.duties.service refl
           test = ap running_test same.call ∙ b.test;
           busy = ap (λ (c : FunctionCall). rests c.phase) same.call ∙ b.busy;
           run = same.run ∙ b.run;
-          suite = same.suite ∙ f.suite;
-          stopped = same.stopped ∙ f.stopped;
+          suite = same.rest.suite ∙ f.suite;
+          stopped = same.rest.stopped ∙ f.stopped;
         }
 
 other_keeps : (k n : ℕ) (last : Bool) (c : Called) (t : WorkerTurn) → IsOther c → Keeps n last t → Keeps n last (called k c t)
-other_keeps k n last (Runs function.Echo) t o f = record { test = f.test; busy = f.busy; run = f.run; suite = f.suite; stopped = f.stopped }
-other_keeps k n last (Runs (function.Fail x)) t o f = record { test = f.test; busy = f.busy; run = f.run; suite = f.suite; stopped = f.stopped }
+other_keeps k n last (Runs function.Echo) t o f = f
+other_keeps k n last (Runs (function.Fail x)) t o f = f
 other_keeps k n last (Runs (function.RunTests path mode)) t o f = absurd o
-other_keeps k n last (Refused fault) t o f = record { test = f.test; busy = f.busy; run = f.run; suite = f.suite; stopped = f.stopped }
+other_keeps k n last (Refused fault) t o f = f
 
 -- a worker whose test runs has called `run_tests`
 is_called_if : (s : Option Service) (n : ℕ) → running_test (call_of_service s) ≡ Some n → is_called s ≡ true
@@ -203,16 +182,16 @@ is_called_if None n e = cc
 is_called_if (Some s) n e = refl
 
 echoed_keeps : (h : Sent) (k n : ℕ) (last : Bool) (v : Tree) (t : WorkerTurn) → Keeps n last t → Keeps n last (echoed_how h k v t)
-echoed_keeps how.Said k n last v t f = record { test = f.test; busy = f.busy; run = f.run; suite = f.suite; stopped = f.stopped }
+echoed_keeps how.Said k n last v t f = f
 echoed_keeps how.LeftOut k n last v t f = f
-echoed_keeps how.Unwritten k n last v t f = record { test = f.test; busy = f.busy; run = f.run; suite = f.suite; stopped = f.stopped }
+echoed_keeps how.Unwritten k n last v t f = f
 
 stopped_keeps : (k n : ℕ) (last : Bool) (t : WorkerTurn) → Keeps n last t → Keeps n true (worker_stopped k t)
 stopped_keeps k n last t f = fed_keeps input.Stop k n true (record t { duties = record (t.duties) { stopped = true } }) stop_spares
     (record { test = f.test; busy = f.busy; run = f.run; suite = f.suite; stopped = refl })
 
 did_keeps : (a : Taken Tree) (k n : ℕ) (t : WorkerTurn) → Keeps n false t → Keeps n (is_terminate a) (did a k t)
-did_keeps (Status c) k n t f = record { test = f.test; busy = f.busy; run = f.run; suite = f.suite; stopped = f.stopped }
+did_keeps (Status c) k n t f = f
 did_keeps (Exec c v) k n t f = go (is_called t.duties.service) (is_called_if t.duties.service n f.test)
   where
     go : (b : Bool) → b ≡ true → Keeps n false (called c (called_in b v) t)
@@ -227,7 +206,7 @@ did_keeps (EndHanded c end) k n t f = go (is_service t.duties.service c)
   where
     go : (b : Bool) → Keeps n false (if b then fed input.ReceivingEnded k t else echo_ended c None t)
     go true = fed_keeps input.ReceivingEnded k n false t receiving_spares f
-    go false = record { test = f.test; busy = f.busy; run = f.run; suite = f.suite; stopped = f.stopped }
+    go false = f
 did_keeps Terminate k n t f = stopped_keeps k n false t f
 did_keeps (Kept c) k n t f = f
 did_keeps (EndKept c) k n t f = f

@@ -14,7 +14,6 @@ use Rattle.xd_run_tests.specs.declared.phase.Ending.TheVariants.{BadCommand, Rec
 use Rattle.xd_run_tests.specs.declared.phase.Phase.{Phase}
 use Rattle.xd_run_tests.specs.declared.phase.Phase.TheVariants.{Awaiting, Serving, Stopped, Over}
 use Rattle.xd_run_tests.specs.declared.phase.Phase.TheVariants as phase
-use Rattle.xd_run_tests.specs.declared.ask.Ask.{Ask}
 use Rattle.xd_run_tests.specs.declared.ask.Ask.TheVariants.{Tell}
 use Rattle.xd_run_tests.specs.declared.input.Input.{Input}
 use Rattle.xd_run_tests.specs.declared.input.Input.TheVariants as input
@@ -23,10 +22,12 @@ use Rattle.xd_run_tests.specs.Turns.{CallTurn, call_turn_of, answered, answered_
 use Rattle.xd_listen.specs.Running.{rests}
 
 -- The test that runs is the one that this turn starts.
-pub record Fresh (t : CallTurn) : Type 0 where
-  pub test : running_test t.call ≡ t.run
-  pub some : t.run ≡ None → t.call.running ≡ false
-  pub busy : t.call.running ≡ true → rests t.call.phase ≡ false
+abbrev pub Fresh : CallTurn → Type 0
+Fresh t = record {
+  test : running_test t.call ≡ t.run;
+  some : t.run ≡ None → t.call.running ≡ false;
+  busy : t.call.running ≡ true → rests t.call.phase ≡ false;
+}
 
 none_if : (b : Bool) (x : Option ℕ) → b ≡ false → (if b then x else None) ≡ None
 none_if true x e = cc
@@ -49,9 +50,6 @@ early_fresh t e f = go t.call.running refl
     go true h = record { test = f.test; some = f.some; busy = λ z. refl }
     go false h = idle (over (ending_text e) t) h (no_run t f h)
 
-asking_fresh : (t : CallTurn) (asks : List Ask) → Fresh t → Fresh (asking asks t)
-asking_fresh t asks f = record { test = f.test; some = f.some; busy = f.busy }
-
 moved_fresh : (room : Bool) (ps : List LineEntry) (t : CallTurn) → left t.call ≡ ps → t.call.running ≡ false → t.run ≡ None → rests t.call.phase ≡ false → Fresh (moved_on room ps t)
 moved_fresh room [] t l e n r = idle t e n
 moved_fresh room (Mark ∷ ps) t l e n r = idle (finished t) e n
@@ -70,14 +68,14 @@ settled_fresh room t f r = go t.call.running refl
     go false h = moved_fresh room (left t.call) t refl h (no_run t f h) r
 
 -- the running test stays where the line grows after it
-head_more : (e : ℕ) (l more : List LineEntry) (n : ℕ) → head_test (drop e l) ≡ Some n → head_test (drop e (l ++ more)) ≡ Some n
+pub head_more : (e : ℕ) (l more : List LineEntry) (n : ℕ) → head_test (drop e l) ≡ Some n → head_test (drop e (l ++ more)) ≡ Some n
 head_more zero [] more n h = cc
 head_more zero (Test k ∷ l) more n h = h
 head_more zero (Mark ∷ l) more n h = cc
 head_more (suc e) [] more n h = cc
 head_more (suc e) (p ∷ l) more n h = head_more e l more n h
 
-head_front : (e k : ℕ) (l more : List LineEntry) (n : ℕ) → e < k → head_test (drop e l) ≡ Some n → head_test (drop e (take k l ++ more)) ≡ Some n
+pub head_front : (e k : ℕ) (l more : List LineEntry) (n : ℕ) → e < k → head_test (drop e l) ≡ Some n → head_test (drop e (take k l ++ more)) ≡ Some n
 head_front e zero l more n lt h = absurd (omega (arith, lt))
 head_front zero (suc k) [] more n lt h = cc
 head_front zero (suc k) (Test m ∷ l) more n lt h = h
@@ -86,7 +84,7 @@ head_front (suc e) (suc k) [] more n lt h = cc
 head_front (suc e) (suc k) (p ∷ l) more n lt h = head_front e k l more n (omega (arith, lt)) h
 
 -- the line changed after what runs
-abbrev lined : List LineEntry → CallTurn → CallTurn
+abbrev pub lined : List LineEntry → CallTurn → CallTurn
 lined ps t = record t { call = record (t.call) { line = ps } }
 
 lined_fresh : (t : CallTurn) (ps : List LineEntry) → Fresh t → ((n : ℕ) → t.call.running ≡ true → head_test (left t.call) ≡ Some n → head_test (drop t.call.ended ps) ≡ Some n) → Fresh (lined ps t)
@@ -118,8 +116,8 @@ stolen_fresh : (ns : List ℕ) (t : CallTurn) → Fresh t → Fresh (stolen ns t
 stolen_fresh ns t f = go (all_queued (queue t.call) ns)
   where
     go : (b : Bool) → Fresh (if b then asking (Tell (Back (taken ns (queue t.call))) ∷ []) (lined (front t.call ++ kept ns (queue t.call)) t) else asking (Tell (Back []) ∷ []) t)
-    go true = asking_fresh (lined (front t.call ++ kept ns (queue t.call)) t) (Tell (Back (taken ns (queue t.call))) ∷ []) (front_fresh t (kept ns (queue t.call)) f)
-    go false = asking_fresh t (Tell (Back []) ∷ []) f
+    go true = front_fresh t (kept ns (queue t.call)) f
+    go false = f
 
 stolen_if_fresh : (ns : List ℕ) (t : CallTurn) → Fresh t → Fresh (stolen_if ns t)
 stolen_if_fresh ns t f = go (can_ask t.call.size [] ns)
@@ -139,7 +137,7 @@ heard_fresh : (room : Bool) (o : Option Order) (t : CallTurn) → Fresh t → Fr
 heard_fresh room o t f = go t.call.phase refl
   where
     go : (p : Phase) → t.call.phase ≡ p → Fresh (item_heard_in p room o t)
-    go Awaiting h = record { test = f.test; some = f.some; busy = f.busy }
+    go Awaiting h = f
     go Serving h = told_fresh room o t f (ap rests h)
     go (phase.Ending e) h = f
     go Stopped h = f
@@ -221,19 +219,24 @@ answered_end room outcome ms c n e r = by (running_test c) e
     by (Some m) h = done_fresh room m outcome ms (call_turn_of c) c.phase refl refl r
 
 -- What output leaves: the test that runs, and nothing is started.
-pub record Printing (t : CallTurn) (c : FunctionCall) : Type 0 where
-  pub test : running_test t.call ≡ running_test c
-  pub running : t.call.running ≡ c.running
-  pub phase_is : t.call.phase ≡ c.phase
-  pub run : t.run ≡ None
+abbrev pub Printing : CallTurn → FunctionCall → Type 0
+Printing t c = record {
+  test : running_test t.call ≡ running_test c;
+  running : t.call.running ≡ c.running;
+  phase_is : t.call.phase ≡ c.phase;
+  run : t.run ≡ None;
+}
 
 pub answered_output : (room : Bool) (bytes : List ℕ) (c : FunctionCall) → Printing (answered room (input.Output bytes) (call_turn_of c)) c
 answered_output room bytes c = by (running_test c) c.phase
   where
+    same : Printing (call_turn_of c) c
+    same = record { test = refl; running = refl; phase_is = refl; run = refl }
+
     by : (test : Option ℕ) (p : Phase) → Printing (output_fed test p bytes (call_turn_of c)) c
-    by None p = record { test = refl; running = refl; phase_is = refl; run = refl }
-    by (Some n) Awaiting = record { test = refl; running = refl; phase_is = refl; run = refl }
-    by (Some n) Serving = record { test = refl; running = refl; phase_is = refl; run = refl }
-    by (Some n) (phase.Ending e) = record { test = refl; running = refl; phase_is = refl; run = refl }
-    by (Some n) Stopped = record { test = refl; running = refl; phase_is = refl; run = refl }
-    by (Some n) Over = record { test = refl; running = refl; phase_is = refl; run = refl }
+    by None p = same
+    by (Some n) Awaiting = same
+    by (Some n) Serving = same
+    by (Some n) (phase.Ending e) = same
+    by (Some n) Stopped = same
+    by (Some n) Over = same

@@ -1,6 +1,5 @@
 -- What is taken of the desk, and what is dropped of it.
 use Rattle.std.proofs.Common.{◌≡◌, ℕ, zero, suc, ◌+◌, ◌≤◌, List, [], ◌∷◌, ◌++◌, length, map, Bool, false, Option, Some, None, refl, ap, sym, ◌∙◌, subst, arith, append_assoc, inl, inr}
-use Rattle.std.specs.Prelude.{◌⊎◌}
 use Rattle.xd_post.specs.Mails.{HasMail, TakesAt}
 use Rattle.xd_post.specs.Post.{Ring}
 use Rattle.xd_reader.specs.declared.news.LinkNews.{LinkNews}
@@ -11,12 +10,13 @@ use Rattle.xd_listen.specs.Inputs.{messages_in}
 use Rattle.xd_listen.specs.declared.server.Halt.{Halt}
 use Rattle.xd_listen.specs.declared.server.Halt.TheVariants as halt
 use Rattle.xd_listen.specs.declared.stop.Stop.{Stop}
-use Rattle.xd_listen.specs.Halts.{Ceased, Goes, Strayed, IsStrange, IsUncalled, is_short_by, noted_end, still_started, without_item}
+use Rattle.xd_listen.specs.Halts.{Ceased, Goes, Strayed, Strays, TakenInAll, is_short_by, noted_end, still_started, without_item}
 use Rattle.xd_listen.specs.News.{dones, news_in}
 use Rattle.xd_listen.specs.Seen.{Seen}
 use Rattle.xd_listen.specs.Serves.{Beside, IsEndTaken, ServesSoFar, Setting, nothing, of_inbox, owed_of_link, two}
 use Rattle.xd_listen.specs.Timing.{one_if}
 use Rattle.xd_listen.proofs.Counting.{dones-append}
+use Rattle.xd_listen.proofs.Timings.{at_most}
 
 -- An item was taken of one of two inboxes.
 pub data TakesTwo (a : Setting) (r q : List LinkNews) (item : LinkNews) (new : List (Option (Ring × List LinkNews))) : ℕ → Type 0 where
@@ -79,10 +79,6 @@ was_whole (news.End link.OutOfMemory) b e = cc
 was_whole (news.Output x) b e = e
 was_whole (news.ChildDone outcome) b e = e
 
-at_most : (o : Option ℕ) → one_if o ≤ 1
-at_most None = omega arith
-at_most (Some m) = omega arith
-
 -- n programs at most are to come
 still_drained : (item : LinkNews) (b : Bool) (o : Option ℕ) (n : ℕ) (got : List LinkNews) → (b ≡ false → n ≤ dones got + one_if o) → is_short_by 1 item b ≡ false → n ≤ dones (got ++ item ∷ []) + one_if (still_started 1 item o)
 still_drained (news.Message m) b o n got d e = let x = d e in let y = dones-append got (news.Message m ∷ []) in omega (arith, x, y)
@@ -91,107 +87,72 @@ still_drained (news.Output x) b o n got d e = let z = d e in let y = dones-appen
 still_drained (news.ChildDone outcome) b o n got d e = let x = d e in let y = dones-append got (news.ChildDone outcome ∷ []) in let z = at_most o in omega (arith, x, y, z)
 
 module _ (a : Setting) (now : Beside) (s : Seen) (item : LinkNews) (mails : List (Option (Ring × List LinkNews))) where
+  -- one more item was taken of the reader, or of the runner
+  first_more : (r q : List LinkNews) → mails ≡ two a (r ++ item ∷ []) q → TakenInAll a s r q → TakenInAll a (without_item 0 item mails s) (r ++ item ∷ []) q
+  first_more r q e t = record {
+    mails_are = e;
+    noted = noted_next s.link_stop r item t.noted;
+    drained = λ z. subst (λ (o : Option ℕ). length s.orders ≤ dones q + one_if o) (sym (not_started item s.started)) (t.drained (was_whole item s.short z));
+  }
+
+  second_more : (r q : List LinkNews) → mails ≡ two a r (q ++ item ∷ []) → TakenInAll a s r q → TakenInAll a (without_item 1 item mails s) r (q ++ item ∷ [])
+  second_more r q e t = record {
+    mails_are = e;
+    noted = subst (λ (o : Option LinkStop). IsEndTaken o r) (sym (not_noted item s.link_stop)) t.noted;
+    drained = still_drained item s.short s.started (length s.orders) q t.drained;
+  }
+
   ceased_more : (why : Stop) (n : ℕ) (c : Ceased a now why s) → TakesTwo a c.of_reader c.of_runner item mails n → Ceased a now why (without_item n item mails s)
   ceased_more why zero c (First e) = record {
-    inputs = c.inputs;
-    history = c.history;
+    heard = c.heard;
     of_reader = c.of_reader ++ item ∷ [];
     of_runner = c.of_runner;
-    left = c.left;
-    preceding = c.preceding;
     later = c.later ++ item ∷ [];
     unheard = c.unheard;
-    running = c.running;
-    spoke = c.spoke;
-    path_is = c.path_is;
-    mails_are = e;
-    from_link = ap (λ (l : List LinkNews). l ++ item ∷ []) c.from_link ∙ (append_assoc (map news.Message (messages_in c.inputs)) (c.preceding ++ c.later) (item ∷ []) ∙ ap (λ (l : List LinkNews). map news.Message (messages_in c.inputs) ++ l) (append_assoc c.preceding c.later (item ∷ [])));
-    cause = c.cause;
-    noted = noted_next s.link_stop c.of_reader item c.noted;
+    taken = first_more c.of_reader c.of_runner e c.taken;
+    from_link = ap (λ (l : List LinkNews). l ++ item ∷ []) c.from_link ∙ (append_assoc (map news.Message (messages_in c.heard.inputs)) (c.heard.preceding ++ c.later) (item ∷ []) ∙ ap (λ (l : List LinkNews). map news.Message (messages_in c.heard.inputs) ++ l) (append_assoc c.heard.preceding c.later (item ∷ [])));
     from_programs = c.from_programs;
-    commands = c.commands;
-    left_is = c.left_is;
-    count = c.count;
-    one = c.one;
-    times = c.times;
-    idle = c.idle;
-    some = c.some;
-    ring = c.ring;
-    drained = λ z. subst (λ (o : Option ℕ). length s.orders ≤ dones c.of_runner + one_if o) (sym (not_started item s.started)) (c.drained (was_whole item s.short z));
   }
   ceased_more why (suc zero) c (Second e) = record {
-    inputs = c.inputs;
-    history = c.history;
+    heard = c.heard;
     of_reader = c.of_reader;
     of_runner = c.of_runner ++ item ∷ [];
-    left = c.left;
-    preceding = c.preceding;
     later = c.later;
     unheard = c.unheard ++ item ∷ [];
-    running = c.running;
-    spoke = c.spoke;
-    path_is = c.path_is;
-    mails_are = e;
+    taken = second_more c.of_reader c.of_runner e c.taken;
     from_link = c.from_link;
-    cause = c.cause;
-    noted = subst (λ (o : Option LinkStop). IsEndTaken o c.of_reader) (sym (not_noted item s.link_stop)) c.noted;
-    from_programs = ap (λ (l : List LinkNews). l ++ item ∷ []) c.from_programs ∙ append_assoc (news_in c.inputs) c.unheard (item ∷ []);
-    commands = c.commands;
-    left_is = c.left_is;
-    count = c.count;
-    one = c.one;
-    times = c.times;
-    idle = c.idle;
-    some = c.some;
-    ring = c.ring;
-    drained = still_drained item s.short s.started (length s.orders) c.of_runner c.drained;
+    from_programs = ap (λ (l : List LinkNews). l ++ item ∷ []) c.from_programs ∙ append_assoc (news_in c.heard.inputs) c.unheard (item ∷ []);
   }
   ceased_more why (suc (suc n)) c t = elim t [ ]
 
   strayed_more : (n : ℕ) (x : Strayed a s) → TakesTwo a x.of_reader x.of_runner item mails n → Strayed a (without_item n item mails s)
   strayed_more zero x (First e) = record {
+    stray = x.stray;
     of_reader = x.of_reader ++ item ∷ [];
     of_runner = x.of_runner;
-    messages = x.messages;
-    heard = x.heard;
-    item = x.item;
-    running = x.running;
-    mails_are = e;
-    count = x.count;
-    some = x.some;
-    ring = x.ring;
-    drained = λ z. subst (λ (o : Option ℕ). length s.orders ≤ dones x.of_runner + one_if o) (sym (not_started item s.started)) (x.drained (was_whole item s.short z));
+    taken = first_more x.of_reader x.of_runner e x.taken;
     strays = by x.strays;
   }
     where
-      by : ((later : List LinkNews) × (x.of_reader ≡ map news.Message x.messages ++ x.item ∷ later) × IsStrange x.item) ⊎ ((later : List LinkNews) × (x.of_runner ≡ x.heard ++ x.item ∷ later) × IsUncalled x.running x.item)
-          → ((later : List LinkNews) × (x.of_reader ++ item ∷ [] ≡ map news.Message x.messages ++ x.item ∷ later) × IsStrange x.item) ⊎ ((later : List LinkNews) × (x.of_runner ≡ x.heard ++ x.item ∷ later) × IsUncalled x.running x.item)
-      by (inl h) = inl (h.0 ++ item ∷ [], ap (λ (l : List LinkNews). l ++ item ∷ []) h.1 ∙ append_assoc (map news.Message x.messages) (x.item ∷ h.0) (item ∷ []), h.2)
+      by : Strays x.stray.item x.stray.messages x.stray.preceding x.stray.running x.of_reader x.of_runner → Strays x.stray.item x.stray.messages x.stray.preceding x.stray.running (x.of_reader ++ item ∷ []) x.of_runner
+      by (inl h) = inl (h.0 ++ item ∷ [], ap (λ (l : List LinkNews). l ++ item ∷ []) h.1 ∙ append_assoc (map news.Message x.stray.messages) (x.stray.item ∷ h.0) (item ∷ []), h.2)
       by (inr h) = inr h
   strayed_more (suc zero) x (Second e) = record {
+    stray = x.stray;
     of_reader = x.of_reader;
     of_runner = x.of_runner ++ item ∷ [];
-    messages = x.messages;
-    heard = x.heard;
-    item = x.item;
-    running = x.running;
-    mails_are = e;
-    count = x.count;
-    some = x.some;
-    ring = x.ring;
-    drained = still_drained item s.short s.started (length s.orders) x.of_runner x.drained;
+    taken = second_more x.of_reader x.of_runner e x.taken;
     strays = by x.strays;
   }
     where
-      by : ((later : List LinkNews) × (x.of_reader ≡ map news.Message x.messages ++ x.item ∷ later) × IsStrange x.item) ⊎ ((later : List LinkNews) × (x.of_runner ≡ x.heard ++ x.item ∷ later) × IsUncalled x.running x.item)
-          → ((later : List LinkNews) × (x.of_reader ≡ map news.Message x.messages ++ x.item ∷ later) × IsStrange x.item) ⊎ ((later : List LinkNews) × (x.of_runner ++ item ∷ [] ≡ x.heard ++ x.item ∷ later) × IsUncalled x.running x.item)
+      by : Strays x.stray.item x.stray.messages x.stray.preceding x.stray.running x.of_reader x.of_runner → Strays x.stray.item x.stray.messages x.stray.preceding x.stray.running x.of_reader (x.of_runner ++ item ∷ [])
       by (inl h) = inl h
-      by (inr h) = inr (h.0 ++ item ∷ [], ap (λ (l : List LinkNews). l ++ item ∷ []) h.1 ∙ append_assoc x.heard (x.item ∷ h.0) (item ∷ []), h.2)
+      by (inr h) = inr (h.0 ++ item ∷ [], ap (λ (l : List LinkNews). l ++ item ∷ []) h.1 ∙ append_assoc x.stray.preceding (x.stray.item ∷ h.0) (item ∷ []), h.2)
   strayed_more (suc (suc n)) x t = elim t [ ]
 
   dropped_more : (h : Halt) (n : ℕ) → TakesAt s.mails mails n item → Goes (Some h) a now s → Goes (Some h) a now (without_item n item mails s)
-  dropped_more (halt.At why) n t c = ceased_more why n c (takes_two a c.of_reader c.of_runner item mails n (subst (λ (m : List (Option (Ring × List LinkNews))). TakesAt m mails n item) c.mails_are t))
-  dropped_more halt.Astray n t x = strayed_more n x (takes_two a x.of_reader x.of_runner item mails n (subst (λ (m : List (Option (Ring × List LinkNews))). TakesAt m mails n item) x.mails_are t))
+  dropped_more (halt.At why) n t c = ceased_more why n c (takes_two a c.of_reader c.of_runner item mails n (subst (λ (m : List (Option (Ring × List LinkNews))). TakesAt m mails n item) c.taken.mails_are t))
+  dropped_more halt.Astray n t x = strayed_more n x (takes_two a x.of_reader x.of_runner item mails n (subst (λ (m : List (Option (Ring × List LinkNews))). TakesAt m mails n item) x.taken.mails_are t))
 
   pub dropped_as : (h : Halt) (n : ℕ) (l : Option LinkStop) (m : Option ℕ) (b : Bool) → l ≡ noted_end n item s.link_stop → m ≡ still_started n item s.started → b ≡ is_short_by n item s.short → TakesAt s.mails mails n item
       → Goes (Some h) a now s → Goes (Some h) a now (record s { mails = mails; link_stop = l; started = m; short = b })
@@ -204,86 +165,14 @@ module _ (a : Setting) (now : Beside) (s : Seen) (item : LinkNews) (mails : List
 -- ---- what the server takes
 
 module _ (a : Setting) (now : Beside) (s : Seen) (item : LinkNews) (mails : List (Option (Ring × List LinkNews))) where
-  taken_two : (n : ℕ) (g : ServesSoFar a now nothing s) → TakesTwo a g.of_reader g.of_runner item mails n → ServesSoFar a now (of_inbox n item) (record s { mails = mails })
-  taken_two zero g (First e) = record {
-    inputs = g.inputs;
-    history = g.history;
-    of_reader = g.of_reader;
-    of_runner = g.of_runner;
-    left = g.left;
-    spoke = g.spoke;
-    stands = g.stands;
-    path_is = g.path_is;
-    mails_are = e;
-    from_link = g.from_link;
-    noted = more_noted s.link_stop g.of_reader (item ∷ []) g.noted;
-    from_programs = g.from_programs;
-    commands = g.commands;
-    settled = g.settled;
-    last = λ z. cc;
-    whole = g.whole;
-    count = g.count;
-    timed = g.timed;
-    some = g.some;
-    ring = g.ring;
-    runs = g.runs;
-    reads = g.reads;
-    stopped = g.stopped;
-  }
-  taken_two (suc zero) g (Second e) = record {
-    inputs = g.inputs;
-    history = g.history;
-    of_reader = g.of_reader;
-    of_runner = g.of_runner;
-    left = g.left;
-    spoke = g.spoke;
-    stands = g.stands;
-    path_is = g.path_is;
-    mails_are = e;
-    from_link = g.from_link;
-    noted = g.noted;
-    from_programs = g.from_programs;
-    commands = g.commands;
-    settled = g.settled;
-    last = λ z. cc;
-    whole = g.whole;
-    count = g.count;
-    timed = g.timed;
-    some = g.some;
-    ring = g.ring;
-    runs = g.runs;
-    reads = g.reads;
-    stopped = g.stopped;
-  }
+  taken_two : (n : ℕ) (g : ServesSoFar a now nothing s) → TakesTwo a g.heard.of_reader (news_in g.heard.inputs) item mails n → ServesSoFar a now (of_inbox n item) (record s { mails = mails })
+  taken_two zero g (First e) = record { heard = g.heard; ordered = g.ordered; left = g.left; taken = record { mails_are = e; noted = more_noted s.link_stop g.heard.of_reader (item ∷ []) g.taken.noted } }
+  taken_two (suc zero) g (Second e) = record { heard = g.heard; ordered = g.ordered; left = g.left; taken = record { mails_are = e; noted = g.taken.noted } }
   taken_two (suc (suc n)) g t = elim t [ ]
 
   pub taken_item : (n : ℕ) → TakesAt s.mails mails n item → ServesSoFar a now nothing s → ServesSoFar a now (of_inbox n item) (record s { mails = mails })
-  taken_item n t g = taken_two n g (takes_two a g.of_reader g.of_runner item mails n (subst (λ (m : List (Option (Ring × List LinkNews))). TakesAt m mails n item) g.mails_are t))
+  taken_item n t g = taken_two n g (takes_two a g.heard.of_reader (news_in g.heard.inputs) item mails n (subst (λ (m : List (Option (Ring × List LinkNews))). TakesAt m mails n item) g.taken.mails_are t))
 
 -- the reader's end was taken
 pub noted_now : (a : Setting) (now : Beside) (s : Seen) (why : LinkStop) → ServesSoFar a now (owed_of_link (news.End why)) s → ServesSoFar a now (owed_of_link (news.End why)) (record s { link_stop = Some why })
-noted_now a now s why g = record {
-  inputs = g.inputs;
-  history = g.history;
-  of_reader = g.of_reader;
-  of_runner = g.of_runner;
-  left = g.left;
-  spoke = g.spoke;
-  stands = g.stands;
-  path_is = g.path_is;
-  mails_are = g.mails_are;
-  from_link = g.from_link;
-  noted = (g.of_reader, [], refl);
-  from_programs = g.from_programs;
-  commands = g.commands;
-  settled = g.settled;
-  last = λ z. cc;
-  whole = g.whole;
-  count = g.count;
-  timed = g.timed;
-  some = g.some;
-  ring = g.ring;
-  runs = g.runs;
-  reads = g.reads;
-  stopped = g.stopped;
-}
+noted_now a now s why g = record { heard = g.heard; ordered = g.ordered; left = g.left; taken = record { mails_are = g.taken.mails_are; noted = (g.heard.of_reader, [], refl) } }

@@ -27,7 +27,7 @@ use Rattle.xd_listen.specs.Took.{TookAll, TookToLast}
 use Rattle.xd_listen.specs.declared.stop.Stop.{Stop}
 use Rattle.xd_listen.specs.declared.stop.Stop.TheVariants as stop
 use Rattle.xd_listen.specs.Ends.{Closes, Ends, IsCause, IsStill, RunsPrograms, Scene, last_link_stop, terminated_by, voice_of}
-use Rattle.xd_listen.specs.Halts.{Ceased, Ceases, Strayed, IsStrange, IsUncalled, is_sink_whole, worker_status_of}
+use Rattle.xd_listen.specs.Halts.{Ceased, Ceases, Strayed, Strays, IsStrange, IsUncalled, is_sink_whole, worker_status_of}
 use Rattle.xd_listen.specs.Joined.{Sources}
 use Rattle.xd_listen.specs.News.{dones, news_in}
 use Rattle.xd_listen.specs.Seen.{Seen}
@@ -180,33 +180,33 @@ no_more orders put runs0 runs1 faults0 faults1 heard x more r e count =
 
 pub programs_ended : (a : Setting) (now : Beside) (why : Stop) (s : Seen) (c : Ceased a now why s) (more : List LinkNews) (put : List LinkNews) (old new : Scene)
     → put ≡ c.of_runner ++ more → AllRan s.orders put old.runs new.runs old.child_faults new.child_faults
-    → (unheard : List Ran) × (p : RunsPrograms c.inputs c.history c.left unheard old new) × (worker_status_of why ≡ 0 → unheard ≡ []) × (p.started ≡ s.orders)
+    → (unheard : List Ran) × (p : RunsPrograms c.heard.inputs c.heard.history c.heard.left unheard old new) × (worker_status_of why ≡ 0 → unheard ≡ []) × (p.started ≡ s.orders)
 programs_ended a now why s c more put old new e r =
     let later = c.unheard ++ more in
-    let in_put : put ≡ news_in c.inputs ++ later = e ∙ (ap (λ (l : List LinkNews). l ++ more) c.from_programs ∙ append_assoc (news_in c.inputs) c.unheard more) in
-    let heard = rans_in c.inputs in
-    let unheard = rans (output_in c.inputs) later in
-    let all : map ran_of r.ran ≡ ran_in c.inputs ++ unheard =
-    sym (rans_of r.ran) ∙ (ap (rans []) (sym r.put_is ∙ in_put) ∙ (rans-append [] (news_in c.inputs) later ∙ two_parts (rans [] (news_in c.inputs)) (ran_in c.inputs) _ (output_in c.inputs) later heard.0 heard.1)) in
-    let few : length unheard ≡ c.running = (
+    let in_put : put ≡ news_in c.heard.inputs ++ later = e ∙ (ap (λ (l : List LinkNews). l ++ more) c.from_programs ∙ append_assoc (news_in c.heard.inputs) c.unheard more) in
+    let heard = rans_in c.heard.inputs in
+    let unheard = rans (output_in c.heard.inputs) later in
+    let all : map ran_of r.ran ≡ ran_in c.heard.inputs ++ unheard =
+    sym (rans_of r.ran) ∙ (ap (rans []) (sym r.put_is ∙ in_put) ∙ (rans-append [] (news_in c.heard.inputs) later ∙ two_parts (rans [] (news_in c.heard.inputs)) (ran_in c.heard.inputs) _ (output_in c.heard.inputs) later heard.0 heard.1)) in
+    let few : length unheard ≡ c.heard.running = (
     let x = ran_as_many s.orders (map ran_of r.ran) old.runs new.runs r.run in
     let y = ap (λ (l : List Ran). length l) all in
-    let z = length-append (ran_in c.inputs) unheard in
+    let z = length-append (ran_in c.heard.inputs) unheard in
     let v = ap (λ (l : List Ran). length l) heard.0 in
-    let w = count_rans [] (news_in c.inputs) in
-    let u = c.count in
+    let w = count_rans [] (news_in c.heard.inputs) in
+    let u = c.heard.count in
     omega (arith, x, y, z, v, w, u)) in (
       unheard,
       record {
         started = s.orders;
-        commands = c.commands;
+        commands = c.heard.commands;
         run = subst (λ (l : List Ran). AreRun s.orders l old.runs new.runs) all r.run;
-        heard = unheard_is (output_in c.inputs) later (let o = c.one in omega (arith, few, o));
+        heard = unheard_is (output_in c.heard.inputs) later (let o = c.heard.one in omega (arith, few, o));
         faults = subst (λ (l : List Ran). RoseBy (faults_of l) old.child_faults new.child_faults) all r.faults;
         still = subst (λ (l : List Ran). faults_of l ≡ 0 → new.child_faults ≡ old.child_faults) all r.still;
         later = r.later;
       },
-      λ z. none unheard (let i = c.idle z in omega (arith, few, i)),
+      λ z. none unheard (let i = c.heard.idle z in omega (arith, few, i)),
       refl,
     )
   where
@@ -246,21 +246,21 @@ module _ (a : Setting) (now : Beside) (s : Seen) (before : Sources) (old new : S
   bytes = reads.reads.bytes
 
   abbrev ms : List MessageView
-  ms = messages_in c.inputs
+  ms = messages_in c.heard.inputs
 
-  all : map news.Message reads.put ++ news.End reads.stop ∷ [] ≡ map news.Message ms ++ (c.preceding ++ (c.later ++ more0))
-  all = sym reads.comes ∙ (taken ∙ (ap (λ (l : List LinkNews). l ++ more0) c.from_link ∙ (append_assoc (map news.Message ms) (c.preceding ++ c.later) more0 ∙ ap (λ (l : List LinkNews). map news.Message ms ++ l) (append_assoc c.preceding c.later more0))))
+  all : map news.Message reads.put ++ news.End reads.stop ∷ [] ≡ map news.Message ms ++ (c.heard.preceding ++ (c.later ++ more0))
+  all = sym reads.comes ∙ (taken ∙ (ap (λ (l : List LinkNews). l ++ more0) c.from_link ∙ (append_assoc (map news.Message ms) (c.heard.preceding ++ c.later) more0 ∙ ap (λ (l : List LinkNews). map news.Message ms ++ l) (append_assoc c.heard.preceding c.later more0))))
 
   put_is : reads.put ≡ messages bytes
   put_is = reads.reads.all
 
   begins : IsFirstOf ms (messages bytes)
-  begins = let f = fronts ms reads.put (c.preceding ++ (c.later ++ more0)) reads.stop all in (f.rest, sym put_is ∙ f.all_is)
+  begins = let f = fronts ms reads.put (c.heard.preceding ++ (c.later ++ more0)) reads.stop all in (f.rest, sym put_is ∙ f.all_is)
 
-  following : (preceding : List LinkNews) → c.preceding ≡ preceding → map news.Message reads.put ++ news.End reads.stop ∷ [] ≡ map news.Message ms ++ (preceding ++ (c.later ++ more0))
+  following : (preceding : List LinkNews) → c.heard.preceding ≡ preceding → map news.Message reads.put ++ news.End reads.stop ∷ [] ≡ map news.Message ms ++ (preceding ++ (c.later ++ more0))
   following preceding e = all ∙ ap (λ (l : List LinkNews). map news.Message ms ++ (l ++ (c.later ++ more0))) e
 
-  at_end : (l : LinkStop) → c.preceding ≡ news.End l ∷ [] → has_terminate ms ≡ false → TookAll (messages bytes) ms × (l ≡ reads.stop)
+  at_end : (l : LinkStop) → c.heard.preceding ≡ news.End l ∷ [] → has_terminate ms ≡ false → TookAll (messages bytes) ms × (l ≡ reads.stop)
   at_end l e none = let b = end_is_there ms reads.put (c.later ++ more0) l reads.stop (following (news.End l ∷ []) e) in (record { all_are = sym b.0 ∙ put_is; none_is = none }, b.1)
 
   stops : (l : LinkStop) → l ≡ reads.stop → StopsAt l false bytes s0 s1
@@ -275,23 +275,23 @@ module _ (a : Setting) (now : Beside) (s : Seen) (before : Sources) (old new : S
   source_or link.ReadFault r = inr r
   source_or link.OutOfMemory r = inl r
 
-  sink_was : Spoke a.held c.inputs c.history (is_sink_whole why) (voice_of old) (voice s.sunk s.sink_faults new.file_faults)
-  sink_was = subst (λ (n : ℕ). Spoke a.held c.inputs c.history (is_sink_whole why) (voice_of old) (voice s.sunk s.sink_faults n)) (sym files_is) (subst (λ (v : Voice). Spoke a.held c.inputs c.history (is_sink_whole why) v (voice s.sunk s.sink_faults now.file_faults)) first_is c.spoke)
+  sink_was : Spoke a.held c.heard.inputs c.heard.history (is_sink_whole why) (voice_of old) (voice s.sunk s.sink_faults new.file_faults)
+  sink_was = subst (λ (n : ℕ). Spoke a.held c.heard.inputs c.heard.history (is_sink_whole why) (voice_of old) (voice s.sunk s.sink_faults n)) (sym files_is) (subst (λ (v : Voice). Spoke a.held c.heard.inputs c.heard.history (is_sink_whole why) v (voice s.sunk s.sink_faults now.file_faults)) first_is c.heard.spoke)
 
-  abbrev did : (unheard : List Ran) × (p : RunsPrograms c.inputs c.history c.left unheard old new) × (worker_status_of why ≡ 0 → unheard ≡ []) × (p.started ≡ s.orders)
+  abbrev did : (unheard : List Ran) × (p : RunsPrograms c.heard.inputs c.heard.history c.heard.left unheard old new) × (worker_status_of why ≡ 0 → unheard ≡ []) × (p.started ≡ s.orders)
   did = programs_ended a now why s c more1 runner_put old new taken1 ran
 
-  times_are : Times c.inputs did.1.started old.clock new.clock
-  times_are = subst (λ (l : List (List (List ℕ))). Times c.inputs l old.clock new.clock) (sym did.3)
-      (subst (λ (k : Ticking). Times c.inputs s.orders k new.clock) (sym clock_is) (subst (λ (k : Ticking). Times c.inputs s.orders a.clock k) (sym clock_now) c.times))
+  times_are : Times c.heard.inputs did.1.started old.clock new.clock
+  times_are = subst (λ (l : List (List (List ℕ))). Times c.heard.inputs l old.clock new.clock) (sym did.3)
+      (subst (λ (k : Ticking). Times c.heard.inputs s.orders k new.clock) (sym clock_is) (subst (λ (k : Ticking). Times c.heard.inputs s.orders a.clock k) (sym clock_now) c.heard.times))
 
   -- it ends so, where the sink was closed or not
-  ends_so : (w : Stop) → (is_sink_whole why && closed) ≡ is_sink_whole w → (worker_status_of w ≡ 0 → worker_status_of why ≡ 0) → IsStill w s0.faults s1.faults → IsCause w bytes c.inputs c.history s0 s1 old new → Ends w a.held s0 s1 old new
+  ends_so : (w : Stop) → (is_sink_whole why && closed) ≡ is_sink_whole w → (worker_status_of w ≡ 0 → worker_status_of why ≡ 0) → IsStill w s0.faults s1.faults → IsCause w bytes c.heard.inputs c.heard.history s0 s1 old new → Ends w a.held s0 s1 old new
   ends_so w whole none still cause = record {
     bytes = bytes;
-    inputs = c.inputs;
-    history = c.history;
-    left = c.left;
+    inputs = c.heard.inputs;
+    history = c.heard.history;
+    left = c.heard.left;
     unheard = did.0;
     wrote = is_sink_whole why;
     closed = closed;
@@ -302,10 +302,10 @@ module _ (a : Setting) (now : Beside) (s : Seen) (before : Sources) (old new : S
     spoke = sink_was;
     closes = closes;
     whole = whole;
-    answered = c.path_is;
+    answered = c.heard.path_is;
     programs = did.1;
     times = times_are;
-    left_is = c.left_is;
+    left_is = c.heard.left_is;
     heard = λ z. did.2 (none z);
     source_count = still;
     crews = λ z. (readers_are, runners_are);
@@ -336,7 +336,7 @@ module _ (a : Setting) (now : Beside) (s : Seen) (before : Sources) (old new : S
   sink_rose true count (inr z) = cc
 
   -- GATEWAY_TERMINATE was taken
-  terminated : stop.Terminated ≡ why → closed ≡ true → TookToLast ms × (has_end c.inputs ≡ false) × (is_over (worker_after c.history) ≡ true) → (l : LinkStop) → l ≡ reads.stop → Ends (terminated_by l) a.held s0 s1 old new
+  terminated : stop.Terminated ≡ why → closed ≡ true → TookToLast ms × (has_end c.heard.inputs ≡ false) × (is_over (worker_after c.heard.history) ≡ true) → (l : LinkStop) → l ≡ reads.stop → Ends (terminated_by l) a.held s0 s1 old new
   terminated e z t l f = by l (stops l f)
     where
       well : s1.faults ≡ s0.faults → Ends stop.Terminated a.held s0 s1 old new
@@ -350,7 +350,7 @@ module _ (a : Setting) (now : Beside) (s : Seen) (before : Sources) (old new : S
       by link.ReadFault r = ends_so stop.ReadFault (whole_by stop.Terminated e refl z) (λ q. cc) (three stop.ReadFault refl) (inr t.0, r)
       by link.OutOfMemory r = well r
 
-  ended_by : (w : Stop) → w ≡ why → closed ≡ true → Ceases w c.inputs c.history c.preceding → Ends (last_link_stop true w reads.stop) a.held s0 s1 old new
+  ended_by : (w : Stop) → w ≡ why → closed ≡ true → Ceases w c.heard.inputs c.heard.history c.heard.preceding → Ends (last_link_stop true w reads.stop) a.held s0 s1 old new
   ended_by stop.NotRun e z x = absurd x
   ended_by stop.Terminated e z x = terminated e z x reads.stop refl
   ended_by stop.Ended e z x =
@@ -381,7 +381,7 @@ module _ (a : Setting) (now : Beside) (s : Seen) (before : Sources) (old new : S
   ended l f = by closed refl
     where
       by : (b : Bool) → closed ≡ b → Ends (last_link_stop b why l) a.held s0 s1 old new
-      by true z = subst (λ (x : LinkStop). Ends (last_link_stop true why x) a.held s0 s1 old new) (sym f) (ended_by why refl z c.cause)
+      by true z = subst (λ (x : LinkStop). Ends (last_link_stop true why x) a.held s0 s1 old new) (sym f) (ended_by why refl z c.heard.cause)
       by false z = ends_so stop.WriteFault (ap (λ (y : Bool). is_sink_whole why && y) z ∙ none (is_sink_whole why)) (λ q. cc) (three stop.WriteFault refl) (sink_rose (is_sink_whole why) sink_was.sink_count (inl z))
         where
           none : (x : Bool) → (x && false) ≡ false
@@ -422,14 +422,14 @@ pub not_strayed : (a : Setting) (s : Seen) (x : Strayed a s) (s0 s1 : Spring) (p
     → runner_put ≡ x.of_runner ++ more1 → AllRan s.orders runner_put runs0 runs1 faults0 faults1 → ⊥
 not_strayed a s x s0 s1 put more0 more1 runner_put runs0 runs1 faults0 faults1 reads taken taken1 ran = by x.strays
   where
-    strange : (item : LinkNews) (later : List LinkNews) → IsStrange item → x.of_reader ≡ map news.Message x.messages ++ item ∷ later → ⊥
+    strange : (item : LinkNews) (later : List LinkNews) → IsStrange item → x.of_reader ≡ map news.Message x.stray.messages ++ item ∷ later → ⊥
     strange item later odd e = go f.rest f.following_is
       where
-        all : map news.Message reads.put ++ news.End reads.stop ∷ [] ≡ map news.Message x.messages ++ (item ∷ (later ++ more0))
-        all = sym reads.comes ∙ (taken ∙ (ap (λ (l : List LinkNews). l ++ more0) e ∙ append_assoc (map news.Message x.messages) (item ∷ later) more0))
+        all : map news.Message reads.put ++ news.End reads.stop ∷ [] ≡ map news.Message x.stray.messages ++ (item ∷ (later ++ more0))
+        all = sym reads.comes ∙ (taken ∙ (ap (λ (l : List LinkNews). l ++ more0) e ∙ append_assoc (map news.Message x.stray.messages) (item ∷ later) more0))
 
-        f : Fronts x.messages reads.put (item ∷ (later ++ more0)) reads.stop
-        f = fronts x.messages reads.put (item ∷ (later ++ more0)) reads.stop all
+        f : Fronts x.stray.messages reads.put (item ∷ (later ++ more0)) reads.stop
+        f = fronts x.stray.messages reads.put (item ∷ (later ++ more0)) reads.stop all
 
         at_stop : (l : LinkStop) → IsStrange (news.End l) → StopsAt l false reads.reads.bytes s0 s1 → ⊥
         at_stop link.Ended o r = o
@@ -446,22 +446,22 @@ not_strayed a s x s0 s1 put more0 more1 runner_put runs0 runs1 faults0 faults1 r
         go [] q = at_stop reads.stop (subst IsStrange (head_is (news.End reads.stop) (later ++ more0) [] q) odd) reads.reads.cause
         go (m ∷ rest) q = subst IsStrange (head_is (news.Message m) (later ++ more0) (map news.Message rest ++ news.End reads.stop ∷ []) q) odd
 
-    uncalled : (item : LinkNews) (later : List LinkNews) → IsUncalled x.running item → x.of_runner ≡ x.heard ++ item ∷ later → ⊥
-    uncalled item later odd e = go item odd (fits_at x.heard item (later ++ more1) (subst AllFit (sym ran.put_is ∙ there) (all_fit ran.ran ran.sizes))) idle
+    uncalled : (item : LinkNews) (later : List LinkNews) → IsUncalled x.stray.running item → x.of_runner ≡ x.stray.preceding ++ item ∷ later → ⊥
+    uncalled item later odd e = go item odd (fits_at x.stray.preceding item (later ++ more1) (subst AllFit (sym ran.put_is ∙ there) (all_fit ran.ran ran.sizes))) idle
       where
-        there : runner_put ≡ x.heard ++ item ∷ (later ++ more1)
-        there = taken1 ∙ (ap (λ (l : List LinkNews). l ++ more1) e ∙ append_assoc x.heard (item ∷ later) more1)
+        there : runner_put ≡ x.stray.preceding ++ item ∷ (later ++ more1)
+        there = taken1 ∙ (ap (λ (l : List LinkNews). l ++ more1) e ∙ append_assoc x.stray.preceding (item ∷ later) more1)
 
-        idle : x.running ≡ 0 → ⊥
-        idle z = no_more s.orders runner_put runs0 runs1 faults0 faults1 x.heard item (later ++ more1) ran there (let q = x.count in omega (arith, q, z))
+        idle : x.stray.running ≡ 0 → ⊥
+        idle z = no_more s.orders runner_put runs0 runs1 faults0 faults1 x.stray.preceding item (later ++ more1) ran there (let q = x.stray.count in omega (arith, q, z))
 
-        go : (n : LinkNews) → IsUncalled x.running n → Fits n → (x.running ≡ 0 → ⊥) → ⊥
+        go : (n : LinkNews) → IsUncalled x.stray.running n → Fits n → (x.stray.running ≡ 0 → ⊥) → ⊥
         go (news.Message m) o f i = f
         go (news.End why) o f i = f
         go (news.Output b) (inl z) f i = i z
         go (news.Output b) (inr l) f i = absurd (omega (arith, l, f))
         go (news.ChildDone outcome) o f i = i o
 
-    by : ((later : List LinkNews) × (x.of_reader ≡ map news.Message x.messages ++ x.item ∷ later) × IsStrange x.item) ⊎ ((later : List LinkNews) × (x.of_runner ≡ x.heard ++ x.item ∷ later) × IsUncalled x.running x.item) → ⊥
-    by (inl e) = strange x.item e.0 e.2 e.1
-    by (inr e) = uncalled x.item e.0 e.2 e.1
+    by : Strays x.stray.item x.stray.messages x.stray.preceding x.stray.running x.of_reader x.of_runner → ⊥
+    by (inl e) = strange x.stray.item e.0 e.2 e.1
+    by (inr e) = uncalled x.stray.item e.0 e.2 e.1

@@ -3,6 +3,7 @@ use Rattle.std.proofs.Common.{◌≡◌, ℕ, List, [], ◌∷◌, ◌++◌, map
 use Rattle.std.specs.Prelude.{option_to_list, is_none, if◌then◌else◌}
 use Rattle.xd_edge.specs.Files.{Held}
 use Rattle.xd_frame.specs.Message.{MessageView}
+use Rattle.xd_reader.specs.declared.news.LinkNews.{LinkNews}
 use Rattle.xd_run_tests.specs.Line.{FunctionCall, running_test, head_test, left}
 use Rattle.xd_suite.specs.Tests.{run_at}
 use Rattle.xd_worker.specs.declared.input.WorkerInput.{WorkerInput}
@@ -13,9 +14,16 @@ use Rattle.xd_worker.specs.History.{HeardInput, Is, MessageSays, IsSuite, turn_b
 use Rattle.xd_listen.specs.Inputs.{IsDue, has_terminate, is_terminate_kind, is_link_end, is_of_link, message_in}
 use Rattle.xd_listen.specs.Suites.{FilesGave}
 use Rattle.xd_listen.specs.Programs.{commands_of}
+use Rattle.xd_listen.specs.declared.server.Door.{Door}
+use Rattle.xd_listen.specs.declared.server.Door.TheVariants as door
+use Rattle.xd_listen.specs.Serves.{FromLink, IsListening}
 use Rattle.xd_listen.proofs.Steps.{Does, Plain, Waits, message_does, no_suite_does, suite_does}
 
 -- ---- small facts
+
+-- while messages are taken, what was taken of the reader is what the worker heard
+pub listens : (d : Door) (inputs : List WorkerInput) (got : List LinkNews) → d ≡ door.Open → FromLink d inputs got → IsListening inputs got
+listens d inputs got o f = subst (λ (c : Door). FromLink c inputs got) o f
 
 has_last-append : (a : List MessageView) (m : MessageView) → has_terminate (a ++ m ∷ []) ≡ (has_terminate a || is_terminate_kind m.kind)
 has_last-append [] m = or_false (is_terminate_kind m.kind)

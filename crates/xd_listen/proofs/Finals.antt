@@ -35,8 +35,8 @@ astray_if halt.Astray n = refl
 
 -- what was taken of both inboxes
 pub taken_of : (a : Setting) (now : Beside) (s : Seen) (h : Halt) → Goes (Some h) a now s → (r : List LinkNews) × (q : List LinkNews) × (s.mails ≡ two a r q)
-taken_of a now s (halt.At why) c = (c.of_reader, c.of_runner, c.mails_are)
-taken_of a now s halt.Astray x = (x.of_reader, x.of_runner, x.mails_are)
+taken_of a now s (halt.At why) c = (c.of_reader, c.of_runner, c.taken.mails_are)
+taken_of a now s halt.Astray x = (x.of_reader, x.of_runner, x.taken.mails_are)
 
 -- the orders that a runner took
 pub orders_of : (mails0 mails1 : Mails) (ring : Ring) (s0 s1 : Programs) (put : List LinkNews) → mails0 ≡ Some (ring, []) ∷ [] → RunsOrders mails0 mails1 s0 s1 [] put → (got : List Order) × (mails1 ≡ Some (ring, got) ∷ [])
@@ -104,12 +104,12 @@ module _ (a : Setting) (now : Beside) (before : Sources) (s : Seen) (stop : Link
         (scene a.first.sunk a.first.sink_faults before.programs.runs before.programs.faults a.first.file_faults readers runners a.clock)
         (scene sunk faults b.programs.runs b.programs.faults now.file_faults readers runners now.clock)
     finished why closed sunk faults readers runners c closes =
-        let p0 = put_more rest0 c.of_reader b.reader_put (e0 c.of_reader (mail0 c.of_reader c.of_runner c.mails_are)) in
-        let p1 = put_more rest1 c.of_runner b.runner_put (e1 c.of_runner (mail1 c.of_reader c.of_runner c.mails_are)) in
+        let p0 = put_more rest0 c.of_reader b.reader_put (e0 c.of_reader (mail0 c.of_reader c.of_runner c.taken.mails_are)) in
+        let p1 = put_more rest1 c.of_runner b.runner_put (e1 c.of_runner (mail1 c.of_reader c.of_runner c.taken.mails_are)) in
         let old = scene a.first.sunk a.first.sink_faults before.programs.runs before.programs.faults a.first.file_faults readers runners a.clock in
         let new = scene sunk faults b.programs.runs b.programs.faults now.file_faults readers runners now.clock in
-        let ran = all_ran_of c.of_runner p1.0 c.some p1.1 (few_of c.of_runner (c.drained j.memory)) in
-        let stopped : stop ≡ j.reads.stop = stop_is (subst (λ (o : Option LinkStop). IsEndTaken o c.of_reader) j.noted c.noted) p0.0 p0.1 in (
+        let ran = all_ran_of c.of_runner p1.0 c.heard.some p1.1 (few_of c.of_runner (c.taken.drained j.memory)) in
+        let stopped : stop ≡ j.reads.stop = stop_is (subst (λ (o : Option LinkStop). IsEndTaken o c.of_reader) j.noted c.taken.noted) p0.0 p0.1 in (
           last_link_stop closed why stop,
           refl,
           ended a now s before old new why c before.source b.source b.reader_put p0.0 p1.0 b.runner_put j.reads p0.1 (j.noted ∙ ap Some stopped) p1.1 ran closed closes refl refl refl refl refl refl stop stopped,
@@ -120,9 +120,9 @@ module _ (a : Setting) (now : Beside) (before : Sources) (s : Seen) (stop : Link
 
     pub none_strayed : Strayed a s → ⊥
     none_strayed x =
-        let p0 = put_more rest0 x.of_reader b.reader_put (e0 x.of_reader (mail0 x.of_reader x.of_runner x.mails_are)) in
-        let p1 = put_more rest1 x.of_runner b.runner_put (e1 x.of_runner (mail1 x.of_reader x.of_runner x.mails_are)) in
-        let ran = all_ran_of x.of_runner p1.0 x.some p1.1 (few_of x.of_runner (x.drained j.memory)) in
+        let p0 = put_more rest0 x.of_reader b.reader_put (e0 x.of_reader (mail0 x.of_reader x.of_runner x.taken.mails_are)) in
+        let p1 = put_more rest1 x.of_runner b.runner_put (e1 x.of_runner (mail1 x.of_reader x.of_runner x.taken.mails_are)) in
+        let ran = all_ran_of x.of_runner p1.0 x.stray.some p1.1 (few_of x.of_runner (x.taken.drained j.memory)) in
         not_strayed a s x before.source b.source b.reader_put p0.0 p1.0 b.runner_put before.programs.runs b.programs.runs before.programs.faults b.programs.faults j.reads p0.1 p1.1 ran
 
 -- what a reader put, by the job that was started
@@ -146,8 +146,8 @@ idle_ran mails0 mails1 ring ring1 s0 s1 p0 p1 rest ordered none same fresh are r
 
 -- the orders went through one ring
 pub ring_is : (a : Setting) (now : Beside) (s : Seen) (h : Halt) → Goes (Some h) a now s → s.ring ≡ a.orders
-ring_is a now s (halt.At why) c = c.ring
-ring_is a now s halt.Astray x = x.ring
+ring_is a now s (halt.At why) c = c.heard.ring
+ring_is a now s halt.Astray x = x.stray.ring
 
 -- a sink that is closed does not change why the worker listens no more
 pub still_goes : {N : Type 0} (sunk : N → Option Sunk) (faults : N → ℕ) (a : Setting) (now : Beside) (h : Halt) (x y : Server N) → y ≡ record x { speaker = record (x.speaker) { sink = y.speaker.sink } }

@@ -11,7 +11,7 @@ use Rattle.xd_journal.specs.declared.entry.Outcome.{Outcome}
 use Rattle.xd_reader.specs.declared.news.LinkNews.{LinkNews}
 use Rattle.xd_reader.specs.declared.news.LinkNews.TheVariants as news
 use Rattle.xd_reader.specs.declared.news.LinkStop.TheVariants as link
-use Rattle.xd_run_tests.specs.Line.{running_test, left}
+use Rattle.xd_run_tests.specs.Line.{running_test}
 use Rattle.xd_suite.specs.Tests.{run_at}
 use Rattle.xd_worker.specs.declared.input.WorkerInput.{WorkerInput}
 use Rattle.xd_worker.specs.declared.input.WorkerInput.TheVariants.{Message, SuiteBytes, SuiteTooLarge, SuiteUnread, Output, ChildDone, LinkEnd}
@@ -26,19 +26,18 @@ use Rattle.xd_listen.specs.Inputs.{IsDue, has_end, has_terminate, is_terminate_k
 use Rattle.xd_listen.specs.Programs.{commands_in, commands_of}
 use Rattle.xd_listen.specs.Took.{TookToLast}
 use Rattle.xd_listen.specs.Suites.{FilesGave, AnswersAsking, asked_path}
-use Rattle.xd_listen.proofs.Facts.{aside, message_came, no_commands, none_more, running_some}
+use Rattle.xd_listen.proofs.Facts.{aside, listens, message_came, no_commands, none_more, running_some}
 use Rattle.xd_listen.proofs.Steps.{Does, Plain, Prints, Ready, Step, end_does, link_end_does, output_does, running_is}
 use Rattle.xd_listen.proofs.Tellings.{answered_later, count_more, rose_later, speaks_more}
 use Rattle.xd_listen.specs.declared.server.Door.{Door}
 use Rattle.xd_listen.specs.declared.server.Door.TheVariants as door
 use Rattle.xd_listen.specs.Halts.{door_after}
-use Rattle.xd_listen.specs.News.{dones, news_of_input, news_in}
+use Rattle.xd_listen.specs.News.{news_of_input, news_in}
 use Rattle.xd_listen.specs.Seen.{Seen, is_door_shut}
-use Rattle.xd_listen.specs.Serves.{Beside, beside, FromLink, IsBusy, IsListening, ReadsSo, RunsSo, ServesSoFar, Setting, owed_of_link, of_program, to_start}
+use Rattle.xd_listen.specs.Serves.{Beside, beside, FromLink, IsBusy, IsListening, OrderedSoFar, Owed, ReadsSo, RunsSo, ServesSoFar, Setting, TakenSoFar, owed_of_link, of_program, to_start}
 use Rattle.xd_edge.specs.Clock.{Ticking, Ticks}
-use Rattle.xd_listen.specs.Timing.{AreMeasuredSince, durations_in, one_if}
+use Rattle.xd_listen.specs.Timing.{durations_in, one_if}
 use Rattle.xd_listen.specs.Spoke.{Spoke, Voice, voice}
-use Rattle.xd_listen.proofs.Counting.{dones_done, dones_piece}
 use Rattle.xd_listen.proofs.Busy.{Keeps, link_end_keeps, message_keeps}
 use Rattle.xd_listen.proofs.Timings.{ended_at, untimed}
 
@@ -78,11 +77,8 @@ ready_runs u y = runs_at u.run u refl y
 pub kept_runs : (moment : ℕ) (u : WorkerTurn) (test : ℕ) → running_test (call_of_service u.duties.service) ≡ Some test → rests (call_of_service u.duties.service).phase ≡ false → u.run ≡ None → RunsSo (Some moment) (commands_of u) (after_turn u)
 kept_runs moment u test runs busy none = subst (λ (l : List (List (List ℕ))). RunsSo (Some moment) l (after_turn u)) (sym (no_commands u none)) (record { test = test; runs = runs; busy = busy })
 
-more_commands : (h : List HeardInput) (g : HeardInput) (orders left : List (List (List ℕ))) → commands_in h ≡ orders ++ left → left ≡ [] → commands_in (g ∷ h) ≡ orders ++ commands_of (turn_by (worker_after h) g)
-more_commands h g orders left e n = ap (λ (l : List (List (List ℕ))). l ++ commands_of (turn_by (worker_after h) g)) (e ∙ (ap (λ (l : List (List (List ℕ))). orders ++ l) n ∙ append-nil orders))
-
-runs_now : (started : Option ℕ) (left : List (List (List ℕ))) (w : Worker) → left ≡ [] → RunsSo started left w → RunsSo started [] w
-runs_now started left w e r = subst (λ (l : List (List (List ℕ))). RunsSo started l w) e r
+more_commands : (h : List HeardInput) (g : HeardInput) (orders : List (List (List ℕ))) → commands_in h ≡ orders ++ [] → commands_in (g ∷ h) ≡ orders ++ commands_of (turn_by (worker_after h) g)
+more_commands h g orders e = ap (λ (l : List (List (List ℕ))). l ++ commands_of (turn_by (worker_after h) g)) (e ∙ append-nil orders)
 
 -- ---- messages
 
@@ -128,7 +124,7 @@ link_after : (b : Bool) (m : MessageView) (d : Door) (inputs : List WorkerInput)
 link_after b m d inputs got o e f = by b e
   where
     x : IsListening inputs got
-    x = subst (λ (d : Door). FromLink d inputs got) o f
+    x = listens d inputs got o f
 
     more : got ++ news.Message m ∷ [] ≡ map news.Message (messages_in inputs ++ m ∷ [])
     more = ap (λ (l : List LinkNews). l ++ news.Message m ∷ []) x.got_is ∙ sym (map-append news.Message (messages_in inputs) (m ∷ []))
@@ -145,41 +141,45 @@ link_after b m d inputs got o e f = by b e
 
 module _ (a : Setting) (now : Beside) (s : Seen) (core : WorkerCore) (broken : Bool) (sunk : Option Sunk) (faults : ℕ) (acts : WorkerActions)
     (writes : WritesMore s.broken broken (frames acts.say) s.sunk sunk) (count : CountSince s.broken broken s.sink_faults faults) (later : s.sink_faults ≤ faults) where
+  -- what is said to one more input
+  spoke_on : (files : ℕ) (owed : Owed) (i : WorkerInput) (g : ServesSoFar a now owed s) (x : Answers core (worker_after g.heard.history) i acts) → s.broken ≡ false → IsDue (worker_after g.heard.history) i → AnswersAsking a.held (Rose a.first.file_faults files) owed.path i
+      → (is_of_link i ≡ true → has_end g.heard.inputs ≡ false) → now.file_faults ≤ files → Spoke a.held (i ∷ g.heard.inputs) (x.heard ∷ g.heard.history) (not broken) a.first (voice sunk faults files)
+  spoke_on files owed i g x whole due follows once more =
+      spoke_more a.held g.heard.inputs g.heard.history s.broken broken a.first (voice s.sunk s.sink_faults now.file_faults) (voice sunk faults files) core i acts whole g.heard.spoke x due
+      (subst (λ (p : Option (List ℕ)). AnswersAsking a.held (Rose a.first.file_faults files) p i) (sym g.heard.path_is) follows) once writes count later more
+
+  -- an input that came of no item of the runner leaves what was taken of it
+  still_taken : (owed : Owed) (t : Seen) (of_reader of_runner more : List LinkNews) → more ≡ [] → TakenSoFar a owed t of_reader of_runner → TakenSoFar a owed t of_reader (of_runner ++ more)
+  still_taken owed t of_reader of_runner more e taken = subst (λ (l : List LinkNews). TakenSoFar a owed t of_reader l) (sym (append-nil of_runner) ∙ ap (λ (l : List LinkNews). of_runner ++ l) (sym e)) taken
+
   pub message_heard : (m : MessageView) (last : Bool) → is_terminate_kind m.kind ≡ last → s.door ≡ door.Open → ((h : List HeardInput) → StandsFor s.core h → Answers core (worker_after h) (Message m) acts)
       → ServesSoFar a now (owed_of_link (news.Message m)) s → ServesSoFar a now (to_start acts.suite) (record (spoken core broken sunk faults s) { door = door_after last s.door })
   message_heard m last e o answers g =
-      let h = g.history in
+      let h = g.heard.history in
       let w = worker_after h in
-      let x = answers h g.stands in
+      let x = answers h g.heard.stands in
       let u = turn_by w x.heard in
-      let listens : IsListening g.inputs g.of_reader = subst (λ (d : Door). FromLink d g.inputs g.of_reader) o g.from_link in
-      let d : Did s.started last s.door u = subst (λ (b : Bool). Did s.started b s.door u) e (message_did s.started w m x.heard s.door x.is o (g.stopped ∙ ap is_door_shut o) (runs_now s.started g.left w (g.settled refl) g.runs)) in
+      let l = listens s.door g.heard.inputs g.heard.of_reader o g.heard.from_link in
+      let d : Did s.started last s.door u = subst (λ (b : Bool). Did s.started b s.door u) e (message_did s.started w m x.heard s.door x.is o (g.heard.stopped ∙ ap is_door_shut o) g.left.runs) in
       record {
-        inputs = Message m ∷ g.inputs;
-        history = x.heard ∷ h;
-        of_reader = g.of_reader ++ news.Message m ∷ [];
-        of_runner = g.of_runner;
-        left = commands_of u;
-        spoke = spoke_more a.held g.inputs h s.broken broken a.first (voice s.sunk s.sink_faults now.file_faults) (voice sunk faults now.file_faults) core (Message m) acts (g.whole refl) g.spoke x tt
-            (subst (λ (p : Option (List ℕ)). AnswersAsking a.held (Rose a.first.file_faults now.file_faults) p (Message m)) (sym g.path_is) refl)
-            (λ z. listens.no_end) writes count later (omega arith);
-        stands = x.worker;
-        path_is = sym x.suite;
-        mails_are = g.mails_are;
-        from_link = link_after last m s.door g.inputs g.of_reader o e g.from_link;
-        noted = g.noted;
-        from_programs = g.from_programs ∙ sym (append-nil (news_in g.inputs));
-        commands = more_commands h x.heard s.orders g.left g.commands (g.settled refl);
-        settled = λ z. cc;
-        last = λ z. refl;
-        whole = λ z. cc;
-        count = g.count;
-        timed = g.timed;
-        some = g.some;
-        ring = g.ring;
-        runs = d.runs;
-        reads = subst (λ (p : Option (List ℕ)). ReadsSo p s.started (commands_of u) (door_after last s.door) (after_turn u)) (sym x.suite) d.reads;
-        stopped = d.stopped ∙ shut_after last s.door o;
+        heard = record {
+          inputs = Message m ∷ g.heard.inputs;
+          history = x.heard ∷ h;
+          of_reader = g.heard.of_reader ++ news.Message m ∷ [];
+          spoke = spoke_on now.file_faults (owed_of_link (news.Message m)) (Message m) g x (g.left.whole refl) tt refl (λ z. l.no_end) (omega arith);
+          stands = x.worker;
+          path_is = sym x.suite;
+          from_link = link_after last m s.door g.heard.inputs g.heard.of_reader o e g.heard.from_link;
+          stopped = d.stopped ∙ shut_after last s.door o;
+        };
+        ordered = g.ordered;
+        left = record {
+          commands = more_commands h x.heard s.orders g.left.commands;
+          whole = λ z. cc;
+          runs = d.runs;
+          reads = subst (λ (p : Option (List ℕ)). ReadsSo p s.started (commands_of u) (door_after last s.door) (after_turn u)) (sym x.suite) d.reads;
+        };
+        taken = still_taken (owed_of_link (news.Message m)) s g.heard.of_reader (news_in g.heard.inputs) [] refl g.taken;
       }
 
   -- the link's end
@@ -194,45 +194,32 @@ module _ (a : Setting) (now : Beside) (s : Seen) (core : WorkerCore) (broken : B
   pub end_heard : s.door ≡ door.Open → ((h : List HeardInput) → StandsFor s.core h → Answers core (worker_after h) LinkEnd acts)
       → ServesSoFar a now (owed_of_link (news.End link.Ended)) s → ServesSoFar a now (to_start None) (record (spoken core broken sunk faults s) { door = door.Ended })
   end_heard o answers g =
-      let h = g.history in
+      let h = g.heard.history in
       let w = worker_after h in
-      let x = answers h g.stands in
+      let x = answers h g.heard.stands in
       let u = turn_by w x.heard in
-      let listens : IsListening g.inputs g.of_reader = subst (λ (d : Door). FromLink d g.inputs g.of_reader) o g.from_link in
-      let unstopped = g.stopped ∙ ap is_door_shut o in
-      let runs = runs_now s.started g.left w (g.settled refl) g.runs in
-      let d : Did s.started true door.Ended u = subst (λ (c : Came). Did s.started true door.Ended (worker_turned c x.heard.channels (worker_turn_of w))) (sym x.is) (end_did s.started w x.heard.channels unstopped runs) in
+      let l = listens s.door g.heard.inputs g.heard.of_reader o g.heard.from_link in
+      let unstopped = g.heard.stopped ∙ ap is_door_shut o in
+      let d : Did s.started true door.Ended u = subst (λ (c : Came). Did s.started true door.Ended (worker_turned c x.heard.channels (worker_turn_of w))) (sym x.is) (end_did s.started w x.heard.channels unstopped g.left.runs) in
       record {
-        inputs = LinkEnd ∷ g.inputs;
-        history = x.heard ∷ h;
-        of_reader = g.of_reader ++ news.End link.Ended ∷ [];
-        of_runner = g.of_runner;
-        left = commands_of u;
-        spoke = spoke_more a.held g.inputs h s.broken broken a.first (voice s.sunk s.sink_faults now.file_faults) (voice sunk faults now.file_faults) core LinkEnd acts (g.whole refl) g.spoke x tt
-            (subst (λ (p : Option (List ℕ)). AnswersAsking a.held (Rose a.first.file_faults now.file_faults) p LinkEnd) (sym g.path_is) refl)
-            (λ z. listens.no_end) writes count later (omega arith);
-        stands = x.worker;
-        path_is = subst (λ (c : Came). (worker_turned c x.heard.channels (worker_turn_of w)).suite ≡ None) (sym x.is) (end_suite s.started w x.heard.channels unstopped runs);
-        mails_are = g.mails_are;
-        from_link = record {
-          later = [];
-          got_is = ap (λ (l : List LinkNews). l ++ news.End link.Ended ∷ []) (listens.got_is ∙ ap (map news.Message) (sym (append-nil (messages_in g.inputs))));
-          none_last = ap has_terminate (append-nil (messages_in g.inputs)) ∙ listens.none_last;
-          end = refl;
+        heard = record {
+          inputs = LinkEnd ∷ g.heard.inputs;
+          history = x.heard ∷ h;
+          of_reader = g.heard.of_reader ++ news.End link.Ended ∷ [];
+          spoke = spoke_on now.file_faults (owed_of_link (news.End link.Ended)) LinkEnd g x (g.left.whole refl) tt refl (λ z. l.no_end) (omega arith);
+          stands = x.worker;
+          path_is = subst (λ (c : Came). (worker_turned c x.heard.channels (worker_turn_of w)).suite ≡ None) (sym x.is) (end_suite s.started w x.heard.channels unstopped g.left.runs);
+          from_link = record {
+            later = [];
+            got_is = ap (λ (l : List LinkNews). l ++ news.End link.Ended ∷ []) (l.got_is ∙ ap (map news.Message) (sym (append-nil (messages_in g.heard.inputs))));
+            none_last = ap has_terminate (append-nil (messages_in g.heard.inputs)) ∙ l.none_last;
+            end = refl;
+          };
+          stopped = d.stopped;
         };
-        noted = g.noted;
-        from_programs = g.from_programs ∙ sym (append-nil (news_in g.inputs));
-        commands = more_commands h x.heard s.orders g.left g.commands (g.settled refl);
-        settled = λ z. cc;
-        last = λ z. refl;
-        whole = λ z. cc;
-        count = g.count;
-        timed = g.timed;
-        some = g.some;
-        ring = g.ring;
-        runs = d.runs;
-        reads = tt;
-        stopped = d.stopped;
+        ordered = g.ordered;
+        left = record { commands = more_commands h x.heard s.orders g.left.commands; whole = λ z. cc; runs = d.runs; reads = tt };
+        taken = still_taken (owed_of_link (news.End link.Ended)) s g.heard.of_reader (news_in g.heard.inputs) [] refl g.taken;
       }
 
   -- ---- the programs
@@ -262,129 +249,105 @@ module _ (a : Setting) (now : Beside) (s : Seen) (core : WorkerCore) (broken : B
   pub output_heard : (piece : List ℕ) → IsSome s.started → length piece ≤ 4096 → ((h : List HeardInput) → StandsFor s.core h → Answers core (worker_after h) (Output piece) acts)
       → ServesSoFar a now (of_program (news.Output piece)) s → ServesSoFar a now (to_start None) (spoken core broken sunk faults s)
   output_heard piece some few answers g =
-      let h = g.history in
+      let h = g.heard.history in
       let w = worker_after h in
-      let x = answers h g.stands in
+      let x = answers h g.heard.stands in
       let u = turn_by w x.heard in
-      let r : IsBusy w = busy_of s.started w some (runs_now s.started g.left w (g.settled refl) g.runs) in
+      let r : IsBusy w = busy_of s.started w some g.left.runs in
       let p : Prints (worker_turn_of w) u = subst (λ (c : Came). Prints (worker_turn_of w) (worker_turned c x.heard.channels (worker_turn_of w))) (sym x.is) (output_does w piece x.heard.channels) in
       record {
-        inputs = Output piece ∷ g.inputs;
-        history = x.heard ∷ h;
-        of_reader = g.of_reader;
-        of_runner = g.of_runner ++ news.Output piece ∷ [];
-        left = commands_of u;
-        spoke = spoke_more a.held g.inputs h s.broken broken a.first (voice s.sunk s.sink_faults now.file_faults) (voice sunk faults now.file_faults) core (Output piece) acts (g.whole refl) g.spoke x
-            (subst (λ (o : Option ℕ). IsSome o) (sym (running_is w.duties.service ∙ r.runs)) search, few)
-            (subst (λ (p : Option (List ℕ)). AnswersAsking a.held (Rose a.first.file_faults now.file_faults) p (Output piece)) (sym g.path_is) refl)
-            (λ z. cc) writes count later (omega arith);
-        stands = x.worker;
-        path_is = p.rest.suite;
-        mails_are = g.mails_are;
-        from_link = link_same s.door (Output piece) g.inputs g.of_reader refl refl g.from_link;
-        noted = g.noted;
-        from_programs = ap (λ (l : List LinkNews). l ++ news.Output piece ∷ []) g.from_programs;
-        commands = more_commands h x.heard s.orders g.left g.commands (g.settled refl);
-        settled = λ z. cc;
-        last = λ z. refl;
-        whole = λ z. cc;
-        count = g.count ∙ ap (λ (n : ℕ). n + one_if s.started) (sym (dones_piece g.of_runner piece));
-        timed = g.timed;
-        some = g.some;
-        ring = g.ring;
-        runs = still_runs s.started u some r.test (p.test ∙ r.runs) (ap rests p.phase_is ∙ r.busy) p.run;
-        reads = tt;
-        stopped = p.rest.stopped ∙ g.stopped;
+        heard = record {
+          inputs = Output piece ∷ g.heard.inputs;
+          history = x.heard ∷ h;
+          of_reader = g.heard.of_reader;
+          spoke = spoke_on now.file_faults (of_program (news.Output piece)) (Output piece) g x (g.left.whole refl) (subst (λ (o : Option ℕ). IsSome o) (sym (running_is w.duties.service ∙ r.runs)) search, few) refl (λ z. cc) (omega arith);
+          stands = x.worker;
+          path_is = p.rest.suite;
+          from_link = link_same s.door (Output piece) g.heard.inputs g.heard.of_reader refl refl g.heard.from_link;
+          stopped = p.rest.stopped ∙ g.heard.stopped;
+        };
+        ordered = g.ordered;
+        left = record {
+          commands = more_commands h x.heard s.orders g.left.commands;
+          whole = λ z. cc;
+          runs = still_runs s.started u some r.test (p.test ∙ r.runs) (ap rests p.phase_is ∙ r.busy) p.run;
+          reads = tt;
+        };
+        taken = g.taken;
       }
 
   pub done_heard : (outcome : Outcome) (ms : ℕ) (clock : Ticking) → IsSome s.started → IfSome s.started (λ start. Ticks (start + ms) now.clock clock) → ((h : List HeardInput) → StandsFor s.core h → Answers core (worker_after h) (ChildDone outcome ms) acts)
       → ServesSoFar a now (of_program (news.ChildDone outcome)) s → ServesSoFar a (beside now.file_faults clock) (to_start None) (record (spoken core broken sunk faults s) { started = None })
   done_heard outcome ms clock some measured answers g =
-      let h = g.history in
+      let h = g.heard.history in
       let w = worker_after h in
-      let x = answers h g.stands in
+      let x = answers h g.heard.stands in
       let u = turn_by w x.heard in
-      let r : IsBusy w = busy_of s.started w some (runs_now s.started g.left w (g.settled refl) g.runs) in
+      let r : IsBusy w = busy_of s.started w some g.left.runs in
       let p : Step (worker_turn_of w) u = subst (λ (c : Came). Step (worker_turn_of w) (worker_turned c x.heard.channels (worker_turn_of w))) (sym x.is) (end_does w outcome ms x.heard.channels r.test r.runs r.busy) in
       record {
-        inputs = ChildDone outcome ms ∷ g.inputs;
-        history = x.heard ∷ h;
-        of_reader = g.of_reader;
-        of_runner = g.of_runner ++ news.ChildDone outcome ∷ [];
-        left = commands_of u;
-        spoke = spoke_more a.held g.inputs h s.broken broken a.first (voice s.sunk s.sink_faults now.file_faults) (voice sunk faults now.file_faults) core (ChildDone outcome ms) acts (g.whole refl) g.spoke x
-            (subst (λ (o : Option ℕ). IsSome o) (sym (running_is w.duties.service ∙ r.runs)) search)
-            (subst (λ (p : Option (List ℕ)). AnswersAsking a.held (Rose a.first.file_faults now.file_faults) p (ChildDone outcome ms)) (sym g.path_is) refl)
-            (λ z. cc) writes count later (omega arith);
-        stands = x.worker;
-        path_is = p.rest.suite;
-        mails_are = g.mails_are;
-        from_link = link_same s.door (ChildDone outcome ms) g.inputs g.of_reader refl refl g.from_link;
-        noted = g.noted;
-        from_programs = ap (λ (l : List LinkNews). l ++ news.ChildDone outcome ∷ []) g.from_programs;
-        commands = more_commands h x.heard s.orders g.left g.commands (g.settled refl);
-        settled = λ z. cc;
-        last = λ z. refl;
-        whole = λ z. cc;
-        count = one_less s.started some (length s.orders) g.of_runner outcome g.count;
-        timed = ended_at s.started (durations_in g.inputs) ms a.clock now.clock clock some g.timed measured;
-        some = g.some;
-        ring = g.ring;
-        runs = ready_runs u p.ready;
-        reads = tt;
-        stopped = p.rest.stopped ∙ g.stopped;
+        heard = record {
+          inputs = ChildDone outcome ms ∷ g.heard.inputs;
+          history = x.heard ∷ h;
+          of_reader = g.heard.of_reader;
+          spoke = spoke_on now.file_faults (of_program (news.ChildDone outcome)) (ChildDone outcome ms) g x (g.left.whole refl) (subst (λ (o : Option ℕ). IsSome o) (sym (running_is w.duties.service ∙ r.runs)) search) refl (λ z. cc) (omega arith);
+          stands = x.worker;
+          path_is = p.rest.suite;
+          from_link = link_same s.door (ChildDone outcome ms) g.heard.inputs g.heard.of_reader refl refl g.heard.from_link;
+          stopped = p.rest.stopped ∙ g.heard.stopped;
+        };
+        ordered = record {
+          each = one_less s.started some (length s.orders) (durations_in g.heard.inputs) g.ordered.each;
+          timed = ended_at s.started (durations_in g.heard.inputs) ms a.clock now.clock clock some g.ordered.timed measured;
+          some = g.ordered.some;
+          ring = g.ordered.ring;
+        };
+        left = record { commands = more_commands h x.heard s.orders g.left.commands; whole = λ z. cc; runs = ready_runs u p.ready; reads = tt };
+        taken = g.taken;
       }
     where
-      one_less : (started : Option ℕ) → IsSome started → (n : ℕ) (ns : List LinkNews) (o : Outcome) → n ≡ dones ns + one_if started → n ≡ dones (ns ++ news.ChildDone o ∷ []) + 0
-      one_less None e n ns o c = cc
-      one_less (Some moment) e n ns o c = let d = dones_done ns o in omega (arith, c, d)
+      one_less : (started : Option ℕ) → IsSome started → (n : ℕ) (durations : List ℕ) → n ≡ length durations + one_if started → n ≡ length (ms ∷ durations) + 0
+      one_less None e n durations c = cc
+      one_less (Some moment) e n durations c = omega (arith, c)
 
   -- ---- a suite
 
   pub suite_heard : (path : List ℕ) (i : WorkerInput) (files1 : ℕ) → s.broken ≡ false → FilesGave a.held (Rose now.file_faults files1) path i → now.file_faults ≤ files1 → ((h : List HeardInput) → StandsFor s.core h → Answers core (worker_after h) i acts)
       → ServesSoFar a now (to_start (Some path)) s → ServesSoFar a (beside files1 now.clock) (to_start None) (spoken core broken sunk faults s)
   suite_heard path i files1 whole gave more answers g =
-      let h = g.history in
+      let h = g.heard.history in
       let w = worker_after h in
-      let x = answers h g.stands in
+      let x = answers h g.heard.stands in
       let u = turn_by w x.heard in
       let y = aside a.held (Rose now.file_faults files1) path i gave in
-      let runs : RunsSo None [] w = subst (λ (o : Option ℕ). RunsSo o [] w) g.reads.1 (runs_now s.started g.left w g.reads.2 g.runs) in
-      let d : Plain u = y.does w x.heard x.is (record { idle = runs; unstopped = g.stopped ∙ ap is_door_shut g.reads.3 }) in
+      let runs : RunsSo None [] w = subst (λ (o : Option ℕ). RunsSo o [] w) g.left.reads.1 (subst (λ (l : List (List (List ℕ))). RunsSo s.started l w) g.left.reads.2 g.left.runs) in
+      let d : Plain u = y.does w x.heard x.is (record { idle = runs; unstopped = g.heard.stopped ∙ ap is_door_shut g.left.reads.3 }) in
       record {
-        inputs = i ∷ g.inputs;
-        history = x.heard ∷ h;
-        of_reader = g.of_reader;
-        of_runner = g.of_runner;
-        left = commands_of u;
-        spoke = spoke_more a.held g.inputs h s.broken broken a.first (voice s.sunk s.sink_faults now.file_faults) (voice sunk faults files1) core i acts whole g.spoke x
-            (y.due w g.reads.0)
-            (subst (λ (p : Option (List ℕ)). AnswersAsking a.held (Rose a.first.file_faults files1) p i) (sym g.path_is) (since i gave))
-            (λ z. let q = sym y.link ∙ z in cc) writes count later more;
-        stands = x.worker;
-        path_is = d.suite;
-        mails_are = g.mails_are;
-        from_link = link_same s.door i g.inputs g.of_reader y.message y.last g.from_link;
-        noted = g.noted;
-        from_programs = g.from_programs ∙ (sym (append-nil (news_in g.inputs)) ∙ ap (λ (l : List LinkNews). news_in g.inputs ++ l) (sym (no_news i gave)));
-        commands = more_commands h x.heard s.orders g.left g.commands g.reads.2;
-        settled = λ z. cc;
-        last = λ z. refl;
-        whole = λ z. cc;
-        count = g.count;
-        timed = subst (λ (l : List ℕ). AreMeasuredSince s.started l a.clock now.clock) (sym (untimed a.held (Rose now.file_faults files1) path i g.inputs gave)) g.timed;
-        some = g.some;
-        ring = g.ring;
-        runs = subst (λ (o : Option ℕ). RunsSo o (commands_of u) (after_turn u)) (sym g.reads.1) (ready_runs u d.ready);
-        reads = tt;
-        stopped = d.unstopped ∙ sym (ap is_door_shut g.reads.3);
+        heard = record {
+          inputs = i ∷ g.heard.inputs;
+          history = x.heard ∷ h;
+          of_reader = g.heard.of_reader;
+          spoke = spoke_on files1 (to_start (Some path)) i g x whole (y.due w g.left.reads.0) (since i gave) (λ z. let q = sym y.link ∙ z in cc) more;
+          stands = x.worker;
+          path_is = d.suite;
+          from_link = link_same s.door i g.heard.inputs g.heard.of_reader y.message y.last g.heard.from_link;
+          stopped = d.unstopped ∙ sym (ap is_door_shut g.left.reads.3);
+        };
+        ordered = subst (λ (l : List ℕ). OrderedSoFar a now s l) (sym (untimed a.held (Rose now.file_faults files1) path i g.heard.inputs gave)) g.ordered;
+        left = record {
+          commands = more_commands h x.heard s.orders (subst (λ (l : List (List (List ℕ))). commands_in h ≡ s.orders ++ l) g.left.reads.2 g.left.commands);
+          whole = λ z. cc;
+          runs = subst (λ (o : Option ℕ). RunsSo o (commands_of u) (after_turn u)) (sym g.left.reads.1) (ready_runs u d.ready);
+          reads = tt;
+        };
+        taken = still_taken (to_start None) s g.heard.of_reader (news_in g.heard.inputs) (news_of_input i) (no_news i gave) g.taken;
       }
     where
       since : (j : WorkerInput) → FilesGave a.held (Rose now.file_faults files1) path j → FilesGave a.held (Rose a.first.file_faults files1) path j
       since (Message m) f = f
       since (SuiteBytes b) f = f
       since SuiteTooLarge f = f
-      since SuiteUnread f = λ below. let r = f below in let l = g.spoke.files_later in omega (arith, r, l)
+      since SuiteUnread f = λ below. let r = f below in let l = g.heard.spoke.files_later in omega (arith, r, l)
       since (Output b) f = f
       since (ChildDone outcome ms) f = f
       since LinkEnd f = f

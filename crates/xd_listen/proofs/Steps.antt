@@ -32,7 +32,7 @@ use Rattle.xd_worker.specs.declared.talk.Sent.TheVariants as how
 use Rattle.xd_gateway.specs.Functions.{called_in}
 use Rattle.xd_factory.specs.SideTable.{ChannelTable, answer, heard_of_message, lost}
 use Rattle.xd_worker.specs.Talk.{sent_how, payload_on}
-use Rattle.xd_worker.specs.Worker.{Service, Duties, Worker, WorkerTurn, worker_turn_of, running_in}
+use Rattle.xd_worker.specs.Worker.{Service, Worker, WorkerTurn, worker_turn_of, running_in}
 use Rattle.xd_worker.specs.Turns.{Told, SuiteRead, NoSuite, Printed, ChildEnded, LinkEnded, at_talk, asked, all_asked, ended_call, given_in, fed, fed_to, called, is_called, is_service, echoed, echoed_how, echo_ended, worker_stopped, did, did_unless, took, suite_read, suite_refused, suite_input, ids_to_collect, worker_turned}
 use Rattle.xd_listen.specs.Running.{call_of_service, rests}
 use Rattle.xd_listen.specs.Inputs.{is_terminate_kind}
@@ -40,30 +40,37 @@ use Rattle.xd_listen.proofs.Calls.{Fresh, idle, answered_idle, answered_end, ans
 
 -- ---- what is asked of the side leaves the work as it is
 
-pub record Same (t u : WorkerTurn) : Type 0 where
-  pub call : call_of_service u.duties.service ≡ call_of_service t.duties.service
-  pub stopped : u.duties.stopped ≡ t.duties.stopped
-  pub owed : u.duties.owed ≡ t.duties.owed
-  pub tests : u.duties.tests ≡ t.duties.tests
-  pub suite : u.suite ≡ t.suite
-  pub run : u.run ≡ t.run
+-- `Rest` and `Same` are record types that have no names of their own: what they say of a turn they say of each other turn
+-- that is the same in what they name.
+
+-- what stays
+abbrev pub Rest : WorkerTurn → WorkerTurn → Type 0
+Rest t u = record { stopped : u.duties.stopped ≡ t.duties.stopped; suite : u.suite ≡ t.suite }
+
+-- the work stays
+abbrev pub Same : WorkerTurn → WorkerTurn → Type 0
+Same t u = record { call : call_of_service u.duties.service ≡ call_of_service t.duties.service; run : u.run ≡ t.run; rest : Rest t u }
+
+-- a turn is the same as itself, and as each that changes nothing of this
+unchanged : (t : WorkerTurn) → Same t t
+unchanged t = record { call = refl; run = refl; rest = record { stopped = refl; suite = refl } }
 
 ended_same : (s : Option Service) → call_of_service (ended_call s) ≡ call_of_service s
 ended_same None = refl
 ended_same (Some s) = refl
 
 asked_same : (c : ℕ) (a : Ask) (t : WorkerTurn) → Same t (asked c a t)
-asked_same c (Tell event) t = record { call = refl; stopped = refl; owed = refl; tests = refl; suite = refl; run = refl }
-asked_same c (Piece log b) t = record { call = refl; stopped = refl; owed = refl; tests = refl; suite = refl; run = refl }
-asked_same c (CloseLog log) t = record { call = refl; stopped = refl; owed = refl; tests = refl; suite = refl; run = refl }
-asked_same c (EndAsk text) t = record { call = ended_same t.duties.service; stopped = refl; owed = refl; tests = refl; suite = refl; run = refl }
+asked_same c (Tell event) t = unchanged t
+asked_same c (Piece log b) t = unchanged t
+asked_same c (CloseLog log) t = unchanged t
+asked_same c (EndAsk text) t = record { call = ended_same t.duties.service; run = refl; rest = (unchanged t).rest }
 
 pub all_same : (c : ℕ) (asks : List Ask) (t : WorkerTurn) → Same t (all_asked c asks t)
-all_same c [] t = record { call = refl; stopped = refl; owed = refl; tests = refl; suite = refl; run = refl }
+all_same c [] t = unchanged t
 all_same c (a ∷ asks) t =
     let one = asked_same c a t in
     let more = all_same c asks (asked c a t) in
-    record { call = more.call ∙ one.call; stopped = more.stopped ∙ one.stopped; owed = more.owed ∙ one.owed; tests = more.tests ∙ one.tests; suite = more.suite ∙ one.suite; run = more.run ∙ one.run }
+    record { call = more.call ∙ one.call; run = more.run ∙ one.run; rest = record { stopped = more.rest.stopped ∙ one.rest.stopped; suite = more.rest.suite ∙ one.rest.suite } }
 
 -- ---- which test runs
 
@@ -72,13 +79,6 @@ pub record Ready (u : WorkerTurn) : Type 0 where
   pub test : running_test (call_of_service u.duties.service) ≡ u.run
   pub some : u.run ≡ None → (call_of_service u.duties.service).running ≡ false
   pub busy : (call_of_service u.duties.service).running ≡ true → rests (call_of_service u.duties.service).phase ≡ false
-
--- what stays
-pub record Rest (t u : WorkerTurn) : Type 0 where
-  pub stopped : u.duties.stopped ≡ t.duties.stopped
-  pub owed : u.duties.owed ≡ t.duties.owed
-  pub tests : u.duties.tests ≡ t.duties.tests
-  pub suite : u.suite ≡ t.suite
 
 pub record Step (t u : WorkerTurn) : Type 0 where
   pub ready : Ready u
@@ -97,7 +97,7 @@ fresh_step s g t f =
         some = λ e. ap (λ (c : FunctionCall). c.running) same.call ∙ f.some (sym same.run ∙ e);
         busy = λ e. ap (λ (c : FunctionCall). rests c.phase) same.call ∙ f.busy (sym (ap (λ (c : FunctionCall). c.running) same.call) ∙ e);
       };
-      rest = record { stopped = same.stopped; owed = same.owed; tests = same.tests; suite = same.suite };
+      rest = same.rest;
     }
 
 ready_idle : (t : WorkerTurn) → (call_of_service t.duties.service).running ≡ false → t.run ≡ None → Ready t
@@ -114,7 +114,7 @@ fed_idle : (i : Input) (n : ℕ) (t : WorkerTurn) → (call_of_service t.duties.
 fed_idle i n t e none = go t.duties.service refl
   where
     go : (s : Option Service) → t.duties.service ≡ s → Step t (fed_to s i n t)
-    go None h = record { ready = ready_idle t e none; rest = record { stopped = refl; owed = refl; tests = refl; suite = refl } }
+    go None h = record { ready = ready_idle t e none; rest = (unchanged t).rest }
     go (Some s) h = fresh_step s (given_in s i n) t (answered_idle (given_in s i n).room i (call_after s.given) (sym (ap (λ (x : Option Service). (call_of_service x).running) h) ∙ e))
 
 fed_end : (outcome : Outcome) (ms n : ℕ) (t : WorkerTurn) (test : ℕ) → running_test (call_of_service t.duties.service) ≡ Some test → rests (call_of_service t.duties.service).phase ≡ false → Step t (fed (input.Done outcome ms) n t)
@@ -136,7 +136,7 @@ fed_output : (bytes : List ℕ) (n : ℕ) (t : WorkerTurn) → t.run ≡ None �
 fed_output bytes n t none = go t.duties.service refl
   where
     go : (s : Option Service) → t.duties.service ≡ s → Prints t (fed_to s (input.Output bytes) n t)
-    go None h = record { test = refl; phase_is = refl; run = none; rest = record { stopped = refl; owed = refl; tests = refl; suite = refl } }
+    go None h = record { test = refl; phase_is = refl; run = none; rest = (unchanged t).rest }
     go (Some s) h =
         let g = given_in s (input.Output bytes) n in
         let same = all_same s.channel (turn_after s.given g).asks (acted_turn s g t) in
@@ -145,17 +145,19 @@ fed_output bytes n t none = go t.duties.service refl
           test = ap running_test same.call ∙ (p.test ∙ sym (ap (λ (x : Option Service). running_test (call_of_service x)) h));
           phase_is = ap (λ (c : FunctionCall). c.phase) same.call ∙ (p.phase_is ∙ sym (ap (λ (x : Option Service). (call_of_service x).phase) h));
           run = same.run ∙ p.run;
-          rest = record { stopped = same.stopped; owed = same.owed; tests = same.tests; suite = same.suite };
+          rest = same.rest;
         }
 
 -- ---- messages
 
 -- nothing runs, and nothing is asked for yet
-record Calm (t : WorkerTurn) : Type 0 where
-  idle : (call_of_service t.duties.service).running ≡ false
-  run : t.run ≡ None
-  suite : t.suite ≡ None
-  unstopped : t.duties.stopped ≡ false
+abbrev Calm : WorkerTurn → Type 0
+Calm t = record {
+  idle : (call_of_service t.duties.service).running ≡ false;
+  run : t.run ≡ None;
+  suite : t.suite ≡ None;
+  unstopped : t.duties.stopped ≡ false;
+}
 
 -- What a message does: where it asks for a suite it starts no test.
 pub record Does (last : Bool) (u : WorkerTurn) : Type 0 where
@@ -175,30 +177,21 @@ step_does t u c s = record {
   ends = λ e. cc;
 }
 
--- the same work, with other things said
-talked : (t u : WorkerTurn) → u.duties ≡ t.duties → u.run ≡ t.run → u.suite ≡ t.suite → Calm t → Calm u
-talked t u d r s c = record {
-  idle = ap (λ (x : Duties). (call_of_service x.service).running) d ∙ c.idle;
-  run = r ∙ c.run;
-  suite = s ∙ c.suite;
-  unstopped = ap (λ (x : Duties). x.stopped) d ∙ c.unstopped;
-}
-
 called_does : (k : ℕ) (c : Called) (t : WorkerTurn) → Calm t → Does false (called k c t)
-called_does k (Runs function.Echo) t m = calm_does (called k (Runs function.Echo) t) (record { idle = m.idle; run = m.run; suite = m.suite; unstopped = m.unstopped })
-called_does k (Runs (function.Fail text)) t m = calm_does (called k (Runs (function.Fail text)) t) (record { idle = m.idle; run = m.run; suite = m.suite; unstopped = m.unstopped })
+called_does k (Runs function.Echo) t m = calm_does (called k (Runs function.Echo) t) m
+called_does k (Runs (function.Fail text)) t m = calm_does (called k (Runs (function.Fail text)) t) m
 called_does k (Runs (function.RunTests path mode)) t m = record {
   ready = ready_idle (called k (Runs (function.RunTests path mode)) t) refl m.run;
   stopped = m.unstopped;
   path = λ p e. (m.run, refl);
   ends = λ e. cc;
 }
-called_does k (Refused fault) t m = calm_does (called k (Refused fault) t) (record { idle = m.idle; run = m.run; suite = m.suite; unstopped = m.unstopped })
+called_does k (Refused fault) t m = calm_does (called k (Refused fault) t) m
 
 echoed_does : (how : Sent) (k : ℕ) (v : Tree) (t : WorkerTurn) → Calm t → Does false (echoed_how how k v t)
-echoed_does how.Said k v t m = calm_does (echoed_how how.Said k v t) (record { idle = m.idle; run = m.run; suite = m.suite; unstopped = m.unstopped })
+echoed_does how.Said k v t m = calm_does (echoed_how how.Said k v t) m
 echoed_does how.LeftOut k v t m = calm_does t m
-echoed_does how.Unwritten k v t m = calm_does (echoed_how how.Unwritten k v t) (record { idle = m.idle; run = m.run; suite = m.suite; unstopped = m.unstopped })
+echoed_does how.Unwritten k v t m = calm_does (echoed_how how.Unwritten k v t) m
 
 stopped_does : (n : ℕ) (t : WorkerTurn) → (call_of_service t.duties.service).running ≡ false → t.run ≡ None → t.suite ≡ None → Does true (worker_stopped n t)
 stopped_does n t e r s =
@@ -222,7 +215,7 @@ is_terminate (EndKept k) = false
 is_terminate Dropped = false
 
 did_does : (a : Taken Tree) (n : ℕ) (t : WorkerTurn) → Calm t → Does (is_terminate a) (did a n t)
-did_does (Status k) n t c = calm_does (did (Status k) n t) (record { idle = c.idle; run = c.run; suite = c.suite; unstopped = c.unstopped })
+did_does (Status k) n t c = calm_does (did (Status k) n t) c
 did_does (Exec k v) n t c = called_does k (called_in (is_called t.duties.service) v) t c
 did_does (Handed k v) n t c = go (is_service t.duties.service k)
   where
@@ -233,7 +226,7 @@ did_does (EndHanded k end) n t c = go (is_service t.duties.service k)
   where
     go : (b : Bool) → Does false (if b then fed input.ReceivingEnded n t else echo_ended k None t)
     go true = step_does t (fed input.ReceivingEnded n t) c (fed_idle input.ReceivingEnded n t c.idle c.run)
-    go false = calm_does (echo_ended k None t) (record { idle = c.idle; run = c.run; suite = c.suite; unstopped = c.unstopped })
+    go false = calm_does (echo_ended k None t) c
 did_does Terminate n t c = stopped_does n t c.idle c.run c.suite
 did_does (Kept k) n t c = calm_does t c
 did_does (EndKept k) n t c = calm_does t c

@@ -1,5 +1,5 @@
 -- How long tests ran: one moment more.
-use Rattle.std.proofs.Common.{◌≡◌, ℕ, ◌+◌, ◌-◌, List, [], ◌∷◌, length, Option, Some, None, refl, ap, ◌∙◌, subst, arith}
+use Rattle.std.proofs.Common.{◌≡◌, ℕ, ◌+◌, ◌-◌, ◌≤◌, List, [], ◌∷◌, length, Option, Some, None, refl, ap, sym, ◌∙◌, subst, arith}
 use Rattle.std.specs.Prelude.{IfSome, IsSome}
 use Rattle.std.proofs.lemmas.List.{append-nil}
 use Rattle.xd_edge.specs.Files.{Held}
@@ -24,12 +24,17 @@ dones_are (Output b ∷ is) = dones_piece (news_in is) b ∙ dones_are is
 dones_are (ChildDone outcome ms ∷ is) = let d = dones_done (news_in is) outcome in let e = dones_are is in omega (arith, d, e)
 dones_are (LinkEnd ∷ is) = ap dones (append-nil (news_in is)) ∙ dones_are is
 
-pub times_of : (a : Setting) (now : Beside) (owed : Owed) (s : Seen) (g : ServesSoFar a now owed s) → Times g.inputs s.orders a.clock now.clock
-times_of a now owed s g = record {
-  running = s.started;
-  each = g.count ∙ ap (λ (n : ℕ). n + one_if s.started) (ap dones g.from_programs ∙ dones_are g.inputs);
-  timed = g.timed;
-}
+-- one program runs at most
+pub at_most : (o : Option ℕ) → one_if o ≤ 1
+at_most None = omega arith
+at_most (Some m) = omega arith
+
+-- as many programs as were ordered ended, but for the one that runs
+pub count_of : (a : Setting) (now : Beside) (owed : Owed) (s : Seen) (g : ServesSoFar a now owed s) → length s.orders ≡ dones (news_in g.heard.inputs) + one_if s.started
+count_of a now owed s g = g.ordered.each ∙ ap (λ (n : ℕ). n + one_if s.started) (sym (dones_are g.heard.inputs))
+
+pub times_of : (a : Setting) (now : Beside) (owed : Owed) (s : Seen) (g : ServesSoFar a now owed s) → Times g.heard.inputs s.orders a.clock now.clock
+times_of a now owed s g = record { running = s.started; each = g.ordered.each; timed = g.ordered.timed }
 
 -- a program begins at a moment
 pub begun_at : (o : Option ℕ) (durations : List ℕ) (moment : ℕ) (old mid new : Ticking) → o ≡ None → AreMeasuredSince o durations old mid → Ticks moment mid new → AreMeasuredSince (Some moment) durations old new

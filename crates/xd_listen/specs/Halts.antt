@@ -62,34 +62,52 @@ Ceases (stop.Message fault) inputs h preceding = (m : MessageView) × (preceding
 Ceases stop.ReadFault inputs h preceding = (preceding ≡ news.End link.ReadFault ∷ []) × (has_terminate (messages_in inputs) ≡ false)
 Ceases stop.WriteFault inputs h preceding = Unit {0}
 
--- The worker listens no more, and this is why. More items may have been taken since. `running` says how many programs
--- ran when it ceased: one, or none.
-pub record Ceased (a : Setting) (now : Beside) (why : Stop) (s : Seen) : Type 0 where
-  pub inputs : List WorkerInput
-  pub history : List HeardInput
-  pub of_reader : List LinkNews
-  pub of_runner : List LinkNews
-  pub left : List (List (List ℕ))
-  pub preceding : List LinkNews
-  pub later : List LinkNews
-  pub unheard : List LinkNews
-  pub running : ℕ
-  pub spoke : Spoke a.held inputs history (is_sink_whole why) a.first (voice s.sunk s.sink_faults now.file_faults)
-  pub path_is : is_sink_whole why ≡ true → asked_path history ≡ None
-  pub mails_are : s.mails ≡ two a of_reader of_runner
-  pub from_link : of_reader ≡ map news.Message (messages_in inputs) ++ (preceding ++ later)
-  pub cause : Ceases why inputs history preceding
-  pub noted : IsEndTaken s.link_stop of_reader
-  pub from_programs : of_runner ≡ news_in inputs ++ unheard
-  pub commands : commands_in history ≡ s.orders ++ left
-  pub left_is : AreLeft (is_sink_whole why) left history
-  pub count : length s.orders ≡ dones (news_in inputs) + running
-  pub one : running ≤ 1
-  pub times : Times inputs s.orders a.clock now.clock
-  pub idle : worker_status_of why ≡ 0 → running ≡ 0
-  pub some : NoneEmpty s.orders
-  pub ring : s.ring ≡ a.orders
-  pub drained : s.short ≡ false → length s.orders ≤ dones of_runner + one_if s.started
+-- Like the parts of `ServesSoFar`, these record types and `Stray` below have no names of their own.
+
+-- What was taken of both inboxes. An end of the reader that is noted is among it, and where no job ran out of memory the end
+-- of each program that was ordered, but for the one that runs.
+abbrev pub TakenInAll : Setting → Seen → List LinkNews → List LinkNews → Type 0
+TakenInAll a s of_reader of_runner = record {
+  mails_are : s.mails ≡ two a of_reader of_runner;
+  noted : IsEndTaken s.link_stop of_reader;
+  drained : s.short ≡ false → length s.orders ≤ dones of_runner + one_if s.started;
+}
+
+-- What the worker heard until it listened no more, for this reason, what it said to that, and what was ordered. `preceding`
+-- is the item of the reader at which it ceased, if it did so at one, and `running` says how many programs ran then: one, or
+-- none.
+abbrev pub HeardInAll : Setting → Beside → Stop → Seen → Type 0
+HeardInAll a now why s = record {
+  inputs : List WorkerInput;
+  history : List HeardInput;
+  left : List (List (List ℕ));
+  preceding : List LinkNews;
+  running : ℕ;
+  spoke : Spoke a.held inputs history (is_sink_whole why) a.first (voice s.sunk s.sink_faults now.file_faults);
+  path_is : is_sink_whole why ≡ true → asked_path history ≡ None;
+  cause : Ceases why inputs history preceding;
+  commands : commands_in history ≡ s.orders ++ left;
+  left_is : AreLeft (is_sink_whole why) left history;
+  count : length s.orders ≡ dones (news_in inputs) + running;
+  one : running ≤ 1;
+  times : Times inputs s.orders a.clock now.clock;
+  idle : worker_status_of why ≡ 0 → running ≡ 0;
+  some : NoneEmpty s.orders;
+  ring : s.ring ≡ a.orders;
+}
+
+-- The worker listens no more, and this is why. More items may have been taken since: those that are later or unheard.
+abbrev pub Ceased : Setting → Beside → Stop → Seen → Type 0
+Ceased a now why s = record {
+  heard : HeardInAll a now why s;
+  of_reader : List LinkNews;
+  of_runner : List LinkNews;
+  later : List LinkNews;
+  unheard : List LinkNews;
+  taken : TakenInAll a s of_reader of_runner;
+  from_link : of_reader ≡ map news.Message (messages_in heard.inputs) ++ (heard.preceding ++ later);
+  from_programs : of_runner ≡ news_in heard.inputs ++ unheard;
+}
 
 -- An item that no reader puts.
 abbrev pub IsStrange : LinkNews → Type 0
@@ -116,20 +134,32 @@ IsUncalled running (news.End link.OutOfMemory) = ⊥
 IsUncalled running (news.Output b) = (running ≡ 0) ⊎ (most_piece_bytes < length b)
 IsUncalled running (news.ChildDone outcome) = running ≡ 0
 
+-- An item that could not come while this many programs ran. Where it is of the reader these messages came before it, and
+-- where it is of the runner what precedes it.
+abbrev pub Stray : Setting → Seen → Type 0
+Stray a s = record {
+  item : LinkNews;
+  messages : List MessageView;
+  preceding : List LinkNews;
+  running : ℕ;
+  count : length s.orders ≡ dones preceding + running;
+  some : NoneEmpty s.orders;
+  ring : s.ring ≡ a.orders;
+}
+
+-- This item is among those of the reader, after these messages, and no reader puts it; or it is among those of the runner,
+-- after these items, and no runner puts it while this many programs run.
+abbrev pub Strays : LinkNews → List MessageView → List LinkNews → ℕ → List LinkNews → List LinkNews → Type 0
+Strays item messages preceding running of_reader of_runner =
+    ((later : List LinkNews) × (of_reader ≡ map news.Message messages ++ item ∷ later) × IsStrange item) ⊎ ((later : List LinkNews) × (of_runner ≡ preceding ++ item ∷ later) × IsUncalled running item)
+
 -- An item was taken that could not come.
 pub record Strayed (a : Setting) (s : Seen) : Type 0 where
+  pub stray : Stray a s
   pub of_reader : List LinkNews
   pub of_runner : List LinkNews
-  pub messages : List MessageView
-  pub heard : List LinkNews
-  pub item : LinkNews
-  pub running : ℕ
-  pub mails_are : s.mails ≡ two a of_reader of_runner
-  pub count : length s.orders ≡ dones heard + running
-  pub some : NoneEmpty s.orders
-  pub ring : s.ring ≡ a.orders
-  pub drained : s.short ≡ false → length s.orders ≤ dones of_runner + one_if s.started
-  pub strays : ((later : List LinkNews) × (of_reader ≡ map news.Message messages ++ item ∷ later) × IsStrange item) ⊎ ((later : List LinkNews) × (of_runner ≡ heard ++ item ∷ later) × IsUncalled running item)
+  pub taken : TakenInAll a s of_reader of_runner
+  pub strays : Strays stray.item stray.messages stray.preceding stray.running of_reader of_runner
 
 -- a message was refused for this reason, or memory ran out, of which nothing is said
 abbrev pub CeasesBy : WorkerFault → Setting → Beside → Seen → Type 0

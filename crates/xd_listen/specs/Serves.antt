@@ -21,7 +21,7 @@ use Rattle.xd_listen.specs.Took.{TookToLast}
 use Rattle.xd_listen.specs.Suites.{asked_path}
 use Rattle.xd_listen.specs.declared.server.Door.{Door}
 use Rattle.xd_listen.specs.declared.server.Door.TheVariants as door
-use Rattle.xd_listen.specs.News.{dones, news_in}
+use Rattle.xd_listen.specs.News.{news_in}
 use Rattle.xd_listen.specs.Seen.{Seen, is_door_shut}
 use Rattle.xd_listen.specs.Spoke.{Spoke, Voice, voice}
 use Rattle.xd_edge.specs.Clock.{Ticking}
@@ -147,28 +147,59 @@ NoneEmpty (command ∷ more) = (command ≡ [] → ⊥) × NoneEmpty more
 abbrev pub RunsTest : ℕ → WorkerCore → Type 0
 RunsTest test core = (h : List HeardInput) → StandsFor core h → running_in (worker_after h).duties.service ≡ Some test
 
+-- the commands that are left: where a test may have to be started those that the last input starts, and else none
+abbrev pub left_of : Bool → List HeardInput → List (List (List ℕ))
+left_of true h = last_commands h
+left_of false h = []
+
+-- The four parts of `ServesSoFar` are record types that have no names of their own: so a part is of one and the same type
+-- for two servers that differ only in what it does not name.
+
+-- What the worker heard and what it said to that, and the items of the reader that were done. Its history asks for this
+-- suite, if for any.
+abbrev pub HeardSoFar : Setting → Beside → Option (List ℕ) → Seen → Type 0
+HeardSoFar a now path s = record {
+  inputs : List WorkerInput;
+  history : List HeardInput;
+  of_reader : List LinkNews;
+  spoke : Spoke a.held inputs history (not s.broken) a.first (voice s.sunk s.sink_faults now.file_faults);
+  stands : StandsFor s.core history;
+  path_is : asked_path history ≡ path;
+  from_link : FromLink s.door inputs of_reader;
+  stopped : (worker_after history).duties.stopped ≡ is_door_shut s.door;
+}
+
+-- What was ordered, through one ring: a program for each of these durations, and the one that runs, if one does. They
+-- were measured so, and no command is empty.
+abbrev pub OrderedSoFar : Setting → Beside → Seen → List ℕ → Type 0
+OrderedSoFar a now s durations = record {
+  each : length s.orders ≡ length durations + one_if s.started;
+  timed : AreMeasuredSince s.started durations a.clock now.clock;
+  some : NoneEmpty s.orders;
+  ring : s.ring ≡ a.orders;
+}
+
+-- What is left to be started, or read: what was ordered and what is left are the commands of the history. Where no test
+-- may have to be started the sink is whole.
+abbrev pub LeftSoFar : Owed → Seen → List HeardInput → Type 0
+LeftSoFar owed s history = record {
+  commands : commands_in history ≡ s.orders ++ left_of owed.starts history;
+  whole : owed.starts ≡ false → s.broken ≡ false;
+  runs : RunsSo s.started (left_of owed.starts history) (worker_after history);
+  reads : ReadsSo owed.path s.started (left_of owed.starts history) s.door (worker_after history);
+}
+
+-- What was taken of the desk: these items of the reader and of the runner, which were done, and the one that is still to
+-- be done, if any. An end of the reader that is noted is among them.
+abbrev pub TakenSoFar : Setting → Owed → Seen → List LinkNews → List LinkNews → Type 0
+TakenSoFar a owed s of_reader of_runner = record {
+  mails_are : s.mails ≡ two a (with_item owed.link of_reader) (with_item owed.program of_runner);
+  noted : IsEndTaken s.link_stop (with_item owed.link of_reader);
+}
+
 -- All that was taken of the desk was done, but for what is owed: what was spoken, what was ordered, and what was measured.
 pub record ServesSoFar (a : Setting) (now : Beside) (owed : Owed) (s : Seen) : Type 0 where
-  pub inputs : List WorkerInput
-  pub history : List HeardInput
-  pub of_reader : List LinkNews
-  pub of_runner : List LinkNews
-  pub left : List (List (List ℕ))
-  pub spoke : Spoke a.held inputs history (not s.broken) a.first (voice s.sunk s.sink_faults now.file_faults)
-  pub stands : StandsFor s.core history
-  pub path_is : asked_path history ≡ owed.path
-  pub mails_are : s.mails ≡ two a (with_item owed.link of_reader) (with_item owed.program of_runner)
-  pub from_link : FromLink s.door inputs of_reader
-  pub noted : IsEndTaken s.link_stop (with_item owed.link of_reader)
-  pub from_programs : of_runner ≡ news_in inputs
-  pub commands : commands_in history ≡ s.orders ++ left
-  pub settled : owed.starts ≡ false → left ≡ []
-  pub last : owed.starts ≡ true → left ≡ last_commands history
-  pub whole : owed.starts ≡ false → s.broken ≡ false
-  pub count : length s.orders ≡ dones of_runner + one_if s.started
-  pub timed : AreMeasuredSince s.started (durations_in inputs) a.clock now.clock
-  pub some : NoneEmpty s.orders
-  pub ring : s.ring ≡ a.orders
-  pub runs : RunsSo s.started left (worker_after history)
-  pub reads : ReadsSo owed.path s.started left s.door (worker_after history)
-  pub stopped : (worker_after history).duties.stopped ≡ is_door_shut s.door
+  pub heard : HeardSoFar a now owed.path s
+  pub ordered : OrderedSoFar a now s (durations_in heard.inputs)
+  pub left : LeftSoFar owed s heard.history
+  pub taken : TakenSoFar a owed s heard.of_reader (news_in heard.inputs)

@@ -16,5 +16,5 @@ returns-clause-goes g c = λ a files s.
     let following = ticking (g.T.Clock.moment c.now.new.self) (g.T.Clock.coming c.now.new.self) in
     c.in_ok-halt.ensures.goes a files
     (c.in_ok-hear_done.ensures.heard a files before following
-    (lasted c.args.self.now.started c.in-Some.start c.now.result c.saturating_sub-ms.result (durations_in s.inputs) a.clock before following c.in-Some.is s.timed
+    (lasted c.args.self.now.started c.in-Some.start c.now.result c.saturating_sub-ms.result (durations_in s.heard.inputs) a.clock before following c.in-Some.is s.ordered.timed
     (record { later = c.now.ensures.later; last = c.now.ensures.last; told = c.now.ensures.told; next = c.now.ensures.next }) c.saturating_sub-ms.ensures) s)
