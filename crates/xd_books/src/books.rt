@@ -27,7 +27,7 @@ pub struct Books {
 impl Model for Books {
     ghost use Rattle.std.specs.Prelude.{[]};
     ghost use Rattle.xd_ledger.specs.Books.{Books};
-    ghost use Rattle.xd_ledger.specs.Table.{fresh};
+    ghost use Rattle.xd_ledger.specs.Table.{fresh_table};
 
     ghost Value = { Books };
 
@@ -35,7 +35,7 @@ impl Model for Books {
       settings = b.settings;
       members = b.members.items;
       lists = b.lists.items;
-      table = fresh [];
+      table = fresh_table [];
       shared = b.shared;
       failures = b.failures;
       deaths = b.deaths;

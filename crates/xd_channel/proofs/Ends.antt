@@ -6,10 +6,10 @@ use Rattle.std.proofs.lemmas.Grind.{common_steps}
 use Rattle.xd_channel.specs.declared.end.End.{End}
 use Rattle.xd_channel.specs.declared.end.End.TheVariants.{Closed, LastMessage, Error, Lost}
 use Rattle.xd_channel.specs.declared.answers.HasCallback.{HasCallback}
-use Rattle.xd_channel.specs.State.{EndState, fresh, arrive_gives, after_arrive, after_put, marker_or, once_given, end_of, after_peer_close, after_close, after_give_up, after_hook, hook_gives, receive_gives, after_receive, given_marker}
+use Rattle.xd_channel.specs.State.{EndState, fresh_end, arrive_gives, after_arrive, after_put, marker_or, once_given, end_of, after_peer_close, after_close, after_give_up, after_hook, hook_gives, receive_gives, after_receive, given_marker}
 use Rattle.xd_channel.specs.History.{EndCall, Arrive, Peer_close, Peer_last, Lose, Close, Give_up, Set_callback, Receive, waited, hands_end, Stands, StandsByParts, marker_left, handed, received, gives_end, delivered, arrived, marker, send_open, hooked, end_given}
 
-pub stands-fresh : {V : Type 0} → Stands {V = V} fresh []
+pub stands-fresh : {V : Type 0} → Stands {V = V} fresh_end []
 stands-fresh = record { items_are = refl; marker_is = refl; sending_is = refl; callback_is = refl; given_is = refl; none_waits = λ e. cc; none_kept = λ e. cc; told_last = λ e. refl; told_late = λ e. cc; one_open = λ e f. cc }
 
 -- the state, from what a history left

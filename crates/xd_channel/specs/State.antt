@@ -26,8 +26,8 @@ pub record EndState (V : Type 0) : Type 0 where
   pub given : Bool
 
 -- a new end is open in both directions
-abbrev pub fresh : {V : Type 0} → EndState V
-fresh = record { waiting = []; marker = None; sending = true; callback = false; given = false }
+abbrev pub fresh_end : {V : Type 0} → EndState V
+fresh_end = record { waiting = []; marker = None; sending = true; callback = false; given = false }
 
 -- sending is closed and the end marker was given: the end may leave its table (a choice of this project)
 abbrev pub is_done : {V : Type 0} → EndState V → Bool

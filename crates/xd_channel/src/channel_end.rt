@@ -1,6 +1,6 @@
 // One end of a channel.
 ghost use Rattle.std.specs.Prelude.{◌≡◌, IfOk, OnErr, List, [], ◌∷◌};
-ghost use Rattle.xd_channel.specs.State.{EndState, fresh, end_of, arrive_gives, after_arrive, may_send_gives, is_done, put_gives, after_put, after_peer_close, close_gives, after_close, give_up_gives, after_give_up, waiting_of, hook_gives, after_hook, receive_gives, after_receive, after_given};
+ghost use Rattle.xd_channel.specs.State.{EndState, fresh_end, end_of, arrive_gives, after_arrive, may_send_gives, is_done, put_gives, after_put, after_peer_close, close_gives, after_close, give_up_gives, after_give_up, waiting_of, hook_gives, after_hook, receive_gives, after_receive, after_given};
 ghost use Rattle.xd_channel.specs.History.{EndCall, Arrive, Peer_close, Peer_last, Lose, Close, Give_up, Set_callback, Receive, Stands};
 
 use crate::{Arrived, Closing, End, GivenUp, Got, HasCallback, SendClosed, Waiting};
@@ -36,7 +36,7 @@ impl<V> Model for ChannelEnd<V> {
 impl<V: Drop> ChannelEnd<V> {
     /// An end that is open in both directions.
     pub fn new(alloc: Global) -> Self
-        ensures state { result ≡ fresh }
+        ensures state { result ≡ fresh_end }
         ensures history { Stands result [] }
     {
         ChannelEnd {

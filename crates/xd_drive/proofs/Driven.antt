@@ -21,7 +21,7 @@ use Rattle.xd_report_laws.proofs.Named.{names-items}
 use Rattle.xd_session.specs.Bounded.{IsBounded}
 use Rattle.xd_session.specs.Ends.{last_stop}
 use Rattle.xd_session.specs.History.{run_of}
-use Rattle.xd_session.specs.Stands.{SessionSeen, StandsFor, state_of}
+use Rattle.xd_session.specs.Stands.{SessionSeen, StandsForNews, state_of}
 use Rattle.xd_session.proofs.Steps.{sound-run}
 use Rattle.xd_drive.specs.declared.written.Written.{Written}
 use Rattle.xd_drive.specs.declared.written.Written.TheVariants.{Whole as WholeAt, Broken as BrokenAt}
@@ -47,7 +47,7 @@ over-performs es b s0 s1 c0 c1 p = record {
   calls = subst (λ (l : List Entry). AddsAll l c0 c1) (sym (filter-append is_call es (Over (run_end_of b) ∷ []) ∙ append-nil (filter is_call es))) p.calls;
 }
 
-module _ (failed : Bool) (s : SessionSeen) (given : List News) (j : Journal) (p : IsProper s.settings []) (same : j.settings ≡ s.settings) (entries_are : j.entries.items ≡ s.entries ++ ending failed (state_of s).books) (st : StandsFor (taken_of s.settings given) s) where
+module _ (failed : Bool) (s : SessionSeen) (given : List News) (j : Journal) (p : IsProper s.settings []) (same : j.settings ≡ s.settings) (entries_are : j.entries.items ≡ s.entries ++ ending failed (state_of s).books) (st : StandsForNews (taken_of s.settings given) s) where
   ended : may_close failed (state_of s).books ≡ true → stop_of j ≡ last_stop failed (state_of s).books → AreInTime s.settings given → Ended failed given j
   ended may stop in_time = record {
     entries = entries_are ∙ ap (λ (es : List Entry). es ++ ending failed (state_of s).books) st.entries
@@ -104,7 +104,7 @@ broken count s j old mid new p same is stop e kills given sunk =
 
 -- the journal is a whole one
 pub whole-by : (failed : Bool) (s : SessionSeen) (j : Journal) (taken : List News) → IsProper s.settings [] → j.settings ≡ s.settings → j.entries.items ≡ s.entries ++ ending failed (state_of s).books
-    → may_close failed (state_of s).books ≡ true → StandsFor taken s → IsWhole j
+    → may_close failed (state_of s).books ≡ true → StandsForNews taken s → IsWhole j
 whole-by failed s j taken p same is may st =
     let k = sound-run s.settings taken p in
     let ins = (run_of s.settings taken).inputs in
@@ -119,7 +119,7 @@ whole-by failed s j taken p same is may st =
     }
 
 journal-by : (failed : Bool) (s : SessionSeen) (j : Journal) (taken : List News) → IsProper s.settings [] → j.settings ≡ s.settings → j.entries.items ≡ s.entries ++ ending failed (state_of s).books
-    → may_close failed (state_of s).books ≡ true → IsLegal j → StandsFor taken s → IsJournalOf s.settings j
+    → may_close failed (state_of s).books ≡ true → IsLegal j → StandsForNews taken s → IsJournalOf s.settings j
 journal-by failed s j taken p same is may legal st =
     let w = whole-by failed s j taken p same is may st in
     record {

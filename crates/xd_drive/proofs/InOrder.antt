@@ -14,7 +14,7 @@ use Rattle.xd_journal.specs.declared.journal.Journal.{Journal}
 use Rattle.xd_journal.specs.declared.news.News.{News}
 use Rattle.xd_ledger.specs.Ending.{ending}
 use Rattle.xd_report.specs.Lines.{run_lines}
-use Rattle.xd_session.specs.Stands.{SessionSeen, StandsFor, state_of}
+use Rattle.xd_session.specs.Stands.{SessionSeen, StandsForNews, state_of}
 use Rattle.xd_laws.proofs.Logic.{cases_of}
 use Rattle.xd_drive.specs.declared.written.Written.{Written}
 use Rattle.xd_drive.specs.declared.written.Written.TheVariants.{Whole, Broken}
@@ -81,13 +81,13 @@ seen-more None after m P Q is f p = subst (λ (o : Option (List HubScene)). IfSo
 seen-more (Some b) after m P Q is f p = subst (λ (o : Option (List HubScene)). IfSome o Q) (sym is) (f b p)
 
 -- the first starts, which have no lines
-order-first-in : (s : SessionSeen) (old : HubScene) (before after : List HubScene) → StandsFor [] s → after ≡ before ++ old ∷ [] → InOrder s.settings (length s.entries) s.entries old after
+order-first-in : (s : SessionSeen) (old : HubScene) (before after : List HubScene) → StandsForNews [] s → after ≡ before ++ old ∷ [] → InOrder s.settings (length s.entries) s.entries old after
 order-first-in s old before after st is =
     subst (λ (ms : List HubScene). InOrder s.settings (length s.entries) s.entries old ms) (sym is)
     (order-more s.settings [] s.entries old old before (λ place h. absurd (omega (arith, h))) (performs-none old.starts old.calls)
     (inl (ap (run_lines s.settings) st.entries ∙ first-lines s.settings, refl)))
 
-pub order-first : (s : SessionSeen) (old : HubScene) (before after : Option (List HubScene)) → StandsFor [] s → after ≡ option_map (λ l. l ++ old ∷ []) before → ToldInOrder s.settings (length s.entries) s.entries old after
+pub order-first : (s : SessionSeen) (old : HubScene) (before after : Option (List HubScene)) → StandsForNews [] s → after ≡ option_map (λ l. l ++ old ∷ []) before → ToldInOrder s.settings (length s.entries) s.entries old after
 order-first s old None after st is = subst (λ (o : Option (List HubScene)). ToldInOrder s.settings (length s.entries) s.entries old o) (sym is) tt
 order-first s old (Some b) after st is = subst (λ (o : Option (List HubScene)). ToldInOrder s.settings (length s.entries) s.entries old o) (sym is) (order-first-in s old b (b ++ old ∷ []) st refl)
 

@@ -8,7 +8,7 @@ use Rattle.xd_journal.specs.declared.news.News.{News}
 use Rattle.xd_ledger.specs.Ending.{ending}
 use Rattle.xd_ledger.specs.Meaning.{spent_by}
 use Rattle.xd_session.specs.Bounded.{IsBounded, keeps_few}
-use Rattle.xd_session.specs.Stands.{SessionSeen, StandsFor, state_of}
+use Rattle.xd_session.specs.Stands.{SessionSeen, StandsForNews, state_of}
 use Rattle.xd_session.proofs.Bounds.{bounded-run}
 use Rattle.xd_session.proofs.Lawful.{stands-proper}
 use Rattle.xd_session.proofs.Steps.{spent-append}
@@ -43,7 +43,7 @@ bounded-following es ys h b =
     record { each = list_all-append keeps_few es ys ∙ and b.each none.0; together = omega (arith, few, same, nothing) }
 
 -- a session that stands for some news, with its end
-pub kept-ended : (failed : Bool) (taken : List News) (s : SessionSeen) → StandsFor taken s → IsBounded (s.entries ++ ending failed (state_of s).books)
+pub kept-ended : (failed : Bool) (taken : List News) (s : SessionSeen) → StandsForNews taken s → IsBounded (s.entries ++ ending failed (state_of s).books)
 kept-ended failed taken s st =
     bounded-following s.entries (ending failed (state_of s).books) (silent-ending failed (state_of s).books)
     (subst IsBounded (sym st.entries) (bounded-run s.settings taken (stands-proper taken s st)))

@@ -23,7 +23,7 @@ use Rattle.xd_ledger.specs.Proper.{IsProper}
 use Rattle.xd_report.specs.Lines.{lines_from, lines_of, run_lines}
 use Rattle.xd_report.specs.Text.{run_tail, run_text, tail_text}
 use Rattle.xd_session.specs.History.{run_of}
-use Rattle.xd_session.specs.Stands.{SessionSeen, StandsFor, state_of}
+use Rattle.xd_session.specs.Stands.{SessionSeen, StandsForNews, state_of}
 use Rattle.xd_laws.proofs.Logic.{and, cases_of, differ}
 use Rattle.xd_laws.proofs.Members.{has}
 use Rattle.xd_drive.specs.declared.written.Written.{Written}
@@ -91,8 +91,8 @@ lines-join s (x ∷ xs) ys = ap (λ (l : List ℕ). lines_of (reached s x) x ++ 
 pub taken-more : (settings : Settings) (given : List News) (n : News) → taken_of settings (given ++ n ∷ []) ≡ taken_with settings (taken_of settings given) n
 taken-more settings given n = fold-append (taken_with settings) [] given (n ∷ [])
 
-stands-more : (given : List News) (n : News) (s0 s1 : SessionSeen) → s1.settings ≡ s0.settings → StandsFor (taken_with s0.settings (taken_of s0.settings given) n) s1 → StandsFor (taken_of s1.settings (given ++ n ∷ [])) s1
-stands-more given n s0 s1 same st = subst (λ (t : List News). StandsFor t s1) (sym (taken-more s0.settings given n) ∙ ap (λ (x : Settings). taken_of x (given ++ n ∷ [])) (sym same)) st
+stands-more : (given : List News) (n : News) (s0 s1 : SessionSeen) → s1.settings ≡ s0.settings → StandsForNews (taken_with s0.settings (taken_of s0.settings given) n) s1 → StandsForNews (taken_of s1.settings (given ++ n ∷ [])) s1
+stands-more given n s0 s1 same st = subst (λ (t : List News). StandsForNews t s1) (sym (taken-more s0.settings given n) ∙ ap (λ (x : Settings). taken_of x (given ++ n ∷ [])) (sym same)) st
 
 module _ (given : List News) (n : News) (s0 s1 : SessionSeen) (old mid new : HubScene) (g : Going given s0 old mid) where
   lines-more : (more : List Entry) → s1.settings ≡ s0.settings → s1.entries ≡ s0.entries ++ more → run_lines s1.settings s1.entries ≡ run_lines s0.settings s0.entries ++ lines_from (after_entries (no_one s0.settings) s0.entries) more
@@ -223,7 +223,7 @@ module _ (given : List News) (s : SessionSeen) (old mid new : HubScene) (g : Goi
 
 -- the beginning
 
-pub going-first : (s : SessionSeen) (slots : ℕ) (old new : HubScene) → s.settings.workers ≤ slots → StandsFor [] s → HasNoMarks old.marks → Performs s.entries old.starts new.starts old.calls new.calls
+pub going-first : (s : SessionSeen) (slots : ℕ) (old new : HubScene) → s.settings.workers ≤ slots → StandsForNews [] s → HasNoMarks old.marks → Performs s.entries old.starts new.starts old.calls new.calls
     → ((w : ℕ) → new.marks w ≡ marks_after s.entries old.marks w) → new.given ≡ old.given → new.sunk ≡ old.sunk → Going [] s old new
 going-first s slots old new l st fresh performed marks given sunk =
     let b = starts s.settings slots old.marks l fresh in
@@ -239,12 +239,12 @@ going-first s slots old new l st fresh performed marks given sunk =
       shows = inl (ap (run_lines s.settings) st.entries ∙ first-lines s.settings, sunk);
     }
 
-pub first-possible : (s : SessionSeen) (slots : ℕ) (marks : ℕ → Marks) (es : List Entry) → s.settings.workers ≤ slots → StandsFor [] s → HasNoMarks marks → es ≡ s.entries → all_possible slots marks es ≡ true
+pub first-possible : (s : SessionSeen) (slots : ℕ) (marks : ℕ → Marks) (es : List Entry) → s.settings.workers ≤ slots → StandsForNews [] s → HasNoMarks marks → es ≡ s.entries → all_possible slots marks es ≡ true
 first-possible s slots marks es l st fresh is = ap (all_possible slots marks) (is ∙ st.entries) ∙ (starts s.settings slots marks l fresh).possible
 
 -- someone was started
 
-pub someone-first : (s : SessionSeen) (old new : HubScene) → IsProper s.settings [] → StandsFor [] s → Going [] s old new → (w : ℕ) × ((new.marks w).started ≡ true)
+pub someone-first : (s : SessionSeen) (old new : HubScene) → IsProper s.settings [] → StandsForNews [] s → Going [] s old new → (w : ℕ) × ((new.marks w).started ≡ true)
 someone-first s old new p st g = (0, g.started 0 ∙ ap (was_started 0) st.entries ∙ by_count s.settings.workers p.some_worker)
   where
     by_count : (k : ℕ) → Rattle.std.specs.Prelude.nat_le 1 k ≡ true → was_started 0 (starts_from 0 k) ≡ true
@@ -256,7 +256,7 @@ someone-still n s0 s1 mid new t w = (w.0, t.told.1.started w.0 ∙ ap (λ (b : B
 
 -- what the last step of the loop comes to
 
-pub begins : (s : SessionSeen) (slots : ℕ) (old new : HubScene) (es : List Entry) → es ≡ s.entries → s.settings.workers ≤ slots → StandsFor [] s → HasNoMarks old.marks → Performs es old.starts new.starts old.calls new.calls
+pub begins : (s : SessionSeen) (slots : ℕ) (old new : HubScene) (es : List Entry) → es ≡ s.entries → s.settings.workers ≤ slots → StandsForNews [] s → HasNoMarks old.marks → Performs es old.starts new.starts old.calls new.calls
     → ((w : ℕ) → new.marks w ≡ marks_after es old.marks w) → new.given ≡ old.given → new.sunk ≡ old.sunk → Going [] s old new
 begins s slots old new es is l st fresh performed marks given sunk =
     going-first s slots old new l st fresh (subst (λ (x : List Entry). Performs x old.starts new.starts old.calls new.calls) is performed) (λ w. marks w ∙ ap (λ (x : List Entry). marks_after x old.marks w) is) given sunk

@@ -20,7 +20,7 @@ use Rattle.xd_report.specs.declared.reporter.Reporter.{Reporter}
 use Rattle.xd_report.specs.Follows.{Follows}
 use Rattle.xd_report.specs.Lines.{lines_between, lines_from}
 use Rattle.xd_session.specs.History.{Run as TheRun, input_of, run_of}
-use Rattle.xd_session.specs.Stands.{SessionSeen, StandsFor, state_of}
+use Rattle.xd_session.specs.Stands.{SessionSeen, StandsForNews, state_of}
 use Rattle.xd_laws.proofs.Logic.{split-and, split-or}
 use Rattle.xd_drive.specs.declared.written.Written.TheVariants.{Whole, Broken}
 use Rattle.xd_drive.specs.Agrees.{Agrees}
@@ -37,7 +37,7 @@ use Rattle.xd_drive.proofs.Runs.{in_run, run-more}
 use Rattle.xd_drive.proofs.Turns.{bounded, entries-added, heard_by, step-agrees, step-possible}
 
 -- the state of a session is the one of the run that it stands for
-pub state-is : (s : SessionSeen) (taken : List News) → IsProper s.settings [] → StandsFor taken s → state_of s ≡ (run_of s.settings taken).state
+pub state-is : (s : SessionSeen) (taken : List News) → IsProper s.settings [] → StandsForNews taken s → state_of s ≡ (run_of s.settings taken).state
 state-is s taken p st = ap (state_at s.settings) st.entries ∙ (in_run s.settings p taken).following
 
 new_ones : (old more new : List Entry) → new ≡ old ++ more → take (length new - length old) (drop (length old) new) ≡ more
@@ -48,7 +48,7 @@ new_ones old more new is =
 old_ones : (old more new : List Entry) → new ≡ old ++ more → take (length old) new ≡ old
 old_ones old more new is = ap (take (length old)) is ∙ Rattle.std.proofs.Math.Seq.take-append_seam old more
 
-module _ (s0 s1 : SessionSeen) (taken : List News) (n : News) (st0 : StandsFor taken s0) (st1 : StandsFor (taken ++ n ∷ []) s1) (same : s1.settings ≡ s0.settings) where
+module _ (s0 s1 : SessionSeen) (taken : List News) (n : News) (st0 : StandsForNews taken s0) (st1 : StandsForNews (taken ++ n ∷ []) s1) (same : s1.settings ≡ s0.settings) where
   abbrev more : List Entry
   more = added_by s0.settings taken n
 
@@ -135,7 +135,7 @@ module _ (s : SessionSeen) (proper : IsProper s.settings []) (n : News) (old mid
   marks-are : mid.marks ≡ (λ w. marked_heard n w (old.marks w))
   marks-are = fun_ext heard
 
-  taken-is : (b : Bool) (taken : List News) → StandsFor taken s → is_active n.worker (state_of s).books ≡ b → taken_with s.settings taken n ≡ (if b then taken ++ n ∷ [] else taken)
+  taken-is : (b : Bool) (taken : List News) → StandsForNews taken s → is_active n.worker (state_of s).books ≡ b → taken_with s.settings taken n ≡ (if b then taken ++ n ∷ [] else taken)
   taken-is b taken st h = ap (λ (q : Bool). if q then taken ++ n ∷ [] else taken) (ap (λ (x : State). is_active n.worker x.books) (sym (state-is s taken proper st)) ∙ h)
 
   -- it is dropped
@@ -145,7 +145,7 @@ module _ (s : SessionSeen) (proper : IsProper s.settings []) (n : News) (old mid
     record {
       gave = gave;
       settings = refl;
-      stands = λ taken st. subst (λ (t : List News). StandsFor t s) (sym (taken-is false taken st off)) st;
+      stands = λ taken st. subst (λ (t : List News). StandsForNews t s) (sym (taken-is false taken st off)) st;
       told = (
         [],
         record {
@@ -164,27 +164,27 @@ module _ (s : SessionSeen) (proper : IsProper s.settings []) (n : News) (old mid
       or-none false = refl
 
   module _ (slots : ℕ) (room : s.settings.workers ≤ slots) (on : is_active n.worker (state_of s).books ≡ true) where
-    agrees-run : (taken : List News) → StandsFor taken s → Agrees (run_of s.settings taken).state.books old.marks
+    agrees-run : (taken : List News) → StandsForNews taken s → Agrees (run_of s.settings taken).state.books old.marks
     agrees-run taken st = subst (λ (x : State). Agrees x.books old.marks) (state-is s taken proper st) agrees
 
-    on-run : (taken : List News) → StandsFor taken s → is_active n.worker (run_of s.settings taken).state.books ≡ true
+    on-run : (taken : List News) → StandsForNews taken s → is_active n.worker (run_of s.settings taken).state.books ≡ true
     on-run taken st = ap (λ (x : State). is_active n.worker x.books) (sym (state-is s taken proper st)) ∙ on
 
-    pub tellable : (slots1 : ℕ) → slots1 ≡ slots → (taken : List News) → StandsFor taken s → all_possible slots1 mid.marks (added_by s.settings taken n) ≡ true
+    pub tellable : (slots1 : ℕ) → slots1 ≡ slots → (taken : List News) → StandsForNews taken s → all_possible slots1 mid.marks (added_by s.settings taken n) ≡ true
     tellable slots1 sl taken st =
         all_possible-same slots slots1 (heard_by n old.marks) mid.marks (added_by s.settings taken n) sl heard
         (step-possible s.settings proper slots old.marks taken n room (bounded s.settings proper taken) (agrees-run taken st) (on-run taken st))
 
     -- it is taken, and s1 is the session after it
-    module _ (s1 : SessionSeen) (stands : (taken : List News) → StandsFor taken s → StandsFor (taken ++ n ∷ []) s1) (same : s1.settings ≡ s.settings) (new : HubScene) (taken : List News) (st : StandsFor taken s) where
+    module _ (s1 : SessionSeen) (stands : (taken : List News) → StandsForNews taken s → StandsForNews (taken ++ n ∷ []) s1) (same : s1.settings ≡ s.settings) (new : HubScene) (taken : List News) (st : StandsForNews taken s) where
       abbrev es : List Entry
       es = added_by s.settings taken n
 
       abbrev lines : List ℕ
       lines = lines_from (after_entries (no_one s.settings) s.entries) es
 
-      stands-with : (t : List News) → StandsFor t s → StandsFor (taken_with s.settings t n) s1
-      stands-with t k = subst (λ (x : List News). StandsFor x s1) (sym (taken-is true t k on)) (stands t k)
+      stands-with : (t : List News) → StandsForNews t s → StandsForNews (taken_with s.settings t n) s1
+      stands-with t k = subst (λ (x : List News). StandsForNews x s1) (sym (taken-is true t k on)) (stands t k)
 
       following : Agrees (state_of s1).books (marks_after es (heard_by n old.marks))
       following =

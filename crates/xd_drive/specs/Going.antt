@@ -14,7 +14,7 @@ use Rattle.xd_ledger.specs.Workers.{is_active}
 use Rattle.xd_report.specs.Lines.{lines_from, run_lines}
 use Rattle.xd_report.specs.Text.{run_text, tail_text}
 use Rattle.xd_session.specs.History.{input_of, run_of}
-use Rattle.xd_session.specs.Stands.{SessionSeen, StandsFor, state_of}
+use Rattle.xd_session.specs.Stands.{SessionSeen, StandsForNews, state_of}
 use Rattle.xd_drive.specs.declared.written.Written.{Written}
 use Rattle.xd_drive.specs.declared.written.Written.TheVariants.{Whole, Broken}
 use Rattle.xd_drive.specs.Agrees.{Agrees}
@@ -41,7 +41,7 @@ module _ {H O : Type 0} (marks : H → ℕ → Marks) (starts calls : H → Opti
 -- All that the news told was printed and performed.
 -- Example: the line of a result is printed and flushed, and the Run after it is told to its worker.
 pub record Going (given : List News) (s : SessionSeen) (old new : HubScene) : Type 0 where
-  pub stands : StandsFor (taken_of s.settings given) s
+  pub stands : StandsForNews (taken_of s.settings given) s
   pub gave : AddsAll given old.given new.given
   pub performed : Performs s.entries old.starts new.starts old.calls new.calls
   pub agrees : Agrees (state_of s).books new.marks
@@ -52,7 +52,7 @@ pub record Going (given : List News) (s : SessionSeen) (old new : HubScene) : Ty
 -- The output failed: `count` entries were performed, and of what is left, and of the end, the kills of the workers that
 -- were started can be asked for.
 pub record Stopped (given : List News) (count : ℕ) (s : SessionSeen) (old new : HubScene) : Type 0 where
-  pub stands : StandsFor (taken_of s.settings given) s
+  pub stands : StandsForNews (taken_of s.settings given) s
   pub gave : AddsAll given old.given new.given
   pub performed : Performs (take count s.entries) old.starts new.starts old.calls new.calls
   pub started : (w : ℕ) → (new.marks w).started ≡ was_started w (take count s.entries)
@@ -107,12 +107,12 @@ TellsNews n (Broken count) s_old s_new old new = (more : List Entry) × Untold n
 pub record TakesNews (n : News) (written : Written) (s_old s_new : SessionSeen) (old new : HubScene) : Type 0 where
   pub gave : AddsAll (n ∷ []) old.given new.given
   pub settings : s_new.settings ≡ s_old.settings
-  pub stands : (taken : List News) → StandsFor taken s_old → StandsFor (taken_with s_old.settings taken n) s_new
+  pub stands : (taken : List News) → StandsForNews taken s_old → StandsForNews (taken_with s_old.settings taken n) s_new
   pub told : TellsNews n written s_old s_new old new
 
 -- The run is over, and its whole report was printed.
 pub record Finished (given : List News) (s : SessionSeen) (old new : HubScene) : Type 0 where
-  pub stands : StandsFor (taken_of s.settings given) s
+  pub stands : StandsForNews (taken_of s.settings given) s
   pub gave : AddsAll given old.given new.given
   pub performed : Performs s.entries old.starts new.starts old.calls new.calls
   pub over : is_over (state_of s).books ≡ true

@@ -7,7 +7,7 @@ ghost use Rattle.xd_ledger.specs.State.{after_entries, no_one};
 ghost use Rattle.xd_ledger.specs.Workers.{is_active};
 ghost use Rattle.xd_report.specs.Follows.{Follows};
 ghost use Rattle.xd_report.specs.Lines.{lines_between, lines_from};
-ghost use Rattle.xd_session.specs.Stands.{StandsFor, state_of};
+ghost use Rattle.xd_session.specs.Stands.{StandsForNews, state_of};
 ghost use Rattle.xd_drive.specs.Agrees.{Agrees};
 ghost use Rattle.xd_drive.specs.Going.{TakesNews, TellsEntries, added_by, scene_of};
 ghost use Rattle.xd_drive.specs.Moments.{NotesNews, NotesTurn};
@@ -88,17 +88,17 @@ fn tell_news<M: Mode, H: Hub, O: Sink, W: Witness<H, O>>(
     out: &mut O,
     witness: &mut W,
 ) -> Result<bool, OutOfMemory>
-    requires stands { (taken : List News) × StandsFor taken session.old }
+    requires stands { (taken : List News) × StandsForNews taken session.old }
     requires follows { Follows reporter.old
         (after_entries (no_one session.old.settings) session.old.entries) }
     requires active { is_active news.worker (state_of session.old).books ≡ true }
-    requires possible { (taken : List News) → StandsFor taken session.old →
+    requires possible { (taken : List News) → StandsForNews taken session.old →
         all_possible (H.slots hub.old) (H.marks hub.old)
         (added_by session.old.settings taken news) ≡ true }
-    ensures stands { OnOk result ((taken : List News) → StandsFor taken session.old →
-        StandsFor (taken ++ news ∷ []) session.new) }
+    ensures stands { OnOk result ((taken : List News) → StandsForNews taken session.old →
+        StandsForNews (taken ++ news ∷ []) session.new) }
     ensures settings { session.new.settings ≡ session.old.settings }
-    ensures tells { IfOk result (λ shown. (taken : List News) → StandsFor taken session.old →
+    ensures tells { IfOk result (λ shown. (taken : List News) → StandsForNews taken session.old →
         TellsEntries shown (added_by session.old.settings taken news)
         (lines_from (after_entries (no_one session.old.settings) session.old.entries)
         (added_by session.old.settings taken news))
@@ -141,7 +141,7 @@ pub(crate) fn take_news<R: Wait, M: Mode, H: Hub, O: Sink, W: Witness<H, O>>(
     witness: &mut W,
 ) -> Result<Written, OutOfMemory>
     requires proper { IsProper session.old.settings [] }
-    requires stands { (taken : List News) × StandsFor taken session.old }
+    requires stands { (taken : List News) × StandsForNews taken session.old }
     requires follows { Follows reporter.old
         (after_entries (no_one session.old.settings) session.old.entries) }
     requires slots { session.old.settings.workers ≤ H.slots hub.old }

@@ -9,7 +9,7 @@ ghost use Rattle.xd_ledger.specs.State.{after_entries, no_one};
 ghost use Rattle.xd_report.specs.Follows.{Follows};
 ghost use Rattle.xd_report.specs.Status.{status_in, status_of};
 ghost use Rattle.xd_session.specs.Ends.{is_out_fault};
-ghost use Rattle.xd_session.specs.Stands.{StandsFor};
+ghost use Rattle.xd_session.specs.Stands.{StandsForNews};
 ghost use Rattle.xd_drive.specs.Driven.{Drove};
 ghost use Rattle.xd_drive.specs.Going.{EndsRun, EndsTail, HasNoMarks, scene_of};
 ghost use Rattle.xd_drive.specs.Moments.{ToldInOrder, performed_of};
@@ -65,7 +65,7 @@ fn run<R: Wait, M: Mode, H: Hub, O: Sink, W: Witness<H, O>>(
     witness: &mut W,
 ) -> Result<Written, OutOfMemory>
     requires proper { IsProper session.old.settings [] }
-    requires begins { StandsFor [] session.old }
+    requires begins { StandsForNews [] session.old }
     requires follows { Follows reporter.old
         (after_entries (no_one session.old.settings) session.old.entries) }
     requires slots { session.old.settings.workers ≤ H.slots hub.old }
@@ -136,7 +136,7 @@ pub fn drive<R: Wait, M: Mode, H: Hub, O: Sink, W: Witness<H, O>>(
     out: &mut O,
     witness: &mut W,
 ) -> Result<DrivenRun, OutOfMemory>
-    requires begins { StandsFor [] session }
+    requires begins { StandsForNews [] session }
     requires slots { session.settings.workers ≤ H.slots hub.old }
     requires fresh { HasNoMarks (H.marks hub.old) }
     ensures drove { IfOk result (λ r. Drove session.settings r.journal

@@ -7,7 +7,7 @@ use Rattle.xd_value.specs.Tree.{Tree, text}
 use Rattle.xd_value.specs.Canonical.{canonical, dumped, IsDump}
 use Rattle.xd_value.specs.declared.writing.DumpFault.{DumpFault}
 use Rattle.xd_value.specs.declared.writing.DumpFault.TheVariants as dump
-use Rattle.xd_factory.specs.Table.{is_long, close_refusal, close_fault_of, IsRefusal}
+use Rattle.xd_factory.specs.Table.{is_long, close_refusal, close_fault_of, IsCloseRefusal}
 
 -- what is written fits a message
 pub dumped_short : (t : Tree) (b : List ℕ) → dumped t ≡ Ok b → length b ≤ 16777216
@@ -37,7 +37,7 @@ refused_length true c dump.Repeated h = refl
 refused_length true c dump.BadChannel h = refl
 refused_length true c dump.OutOfMemory h = absurd (let z = h in cc)
 
-pub text_refused : (cs : List ℕ) (f : DumpFault) → IsDump (Err f) (dumped (text cs)) → IsRefusal (close_refusal true (is_long (Some cs))) (close_fault_of f)
+pub text_refused : (cs : List ℕ) (f : DumpFault) → IsDump (Err f) (dumped (text cs)) → IsCloseRefusal (close_refusal true (is_long (Some cs))) (close_fault_of f)
 text_refused cs dump.OutOfMemory h = tt
 text_refused cs dump.TooLong h = refused_length (is_long (Some cs)) (canonical (text cs)) dump.TooLong (sym (dumped_text cs) ∙ h)
 text_refused cs dump.TooDeep h = refused_length (is_long (Some cs)) (canonical (text cs)) dump.TooDeep (sym (dumped_text cs) ∙ h)

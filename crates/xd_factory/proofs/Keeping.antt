@@ -5,7 +5,7 @@ use Rattle.std.proofs.lemmas.Bool.{eqb-true}
 use Rattle.xd_value.specs.Tree.{Tree}
 use Rattle.xd_value.specs.View.{view}
 use Rattle.xd_value.specs.declared.value.Value.{Value}
-use Rattle.xd_channel.specs.State.{EndState, fresh, end_of, hook_gives, got_of}
+use Rattle.xd_channel.specs.State.{EndState, fresh_end, end_of, hook_gives, got_of}
 use Rattle.xd_channel.specs.History as call
 use Rattle.xd_channel.specs.declared.end.End.{End}
 use Rattle.xd_channel.specs.declared.answers.Got.{Got}
@@ -45,9 +45,9 @@ given_up_keeps old new p q n h e a k = same_parity new p q (Give_up n ∷ h) e (
 pub function_keeps : (old new : ℕ → Slot Tree) (p q : Parity) (n : ℕ) (h : List Act) → q ≡ p → ((c : ℕ) → new c ≡ (if n == c then function_ended_slot (old c) else old c)) → AllStand old p h → AllStand new q (End_function n ∷ h)
 function_keeps old new p q n h e a k = same_parity new p q (End_function n ∷ h) e (λ c. at_one (n == c) (old c) (new c) (deeds p c h) (function_deeds (deeds p c h)) function_ended_slot (a c) (k c) (λ b z. function_stands (old c) (deeds p c h) z))
 
-pub opened_keeps : (old new : ℕ → Slot Tree) (p q : Parity) (n : ℕ) (h : List Act) → q ≡ p → old n ≡ Unseen → ((c : ℕ) → new c ≡ (if n == c then Here fresh else old c)) → AllStand old p h → AllStand new q (Open_channel n ∷ h)
+pub opened_keeps : (old new : ℕ → Slot Tree) (p q : Parity) (n : ℕ) (h : List Act) → q ≡ p → old n ≡ Unseen → ((c : ℕ) → new c ≡ (if n == c then Here fresh_end else old c)) → AllStand old p h → AllStand new q (Open_channel n ∷ h)
 opened_keeps old new p q n h e u a k = same_parity new p q (Open_channel n ∷ h) e
-    (λ c. at_one (n == c) (old c) (new c) (deeds p c h) (Opens ∷ deeds p c h) (λ s. Here fresh) (a c) (k c)
+    (λ c. at_one (n == c) (old c) (new c) (deeds p c h) (Opens ∷ deeds p c h) (λ s. Here fresh_end) (a c) (k c)
     (λ b z. opened_stands (deeds p c h) (subst (λ (s : Slot Tree). SlotStands s (deeds p c h)) (sym (ap old (eqb-true n c b)) ∙ u) z)))
 
 pub lost_keeps : (old new : ℕ → Slot Tree) (p q : Parity) (h : List Act) → q ≡ p → ((c : ℕ) → new c ≡ lost_slot (old c)) → AllStand old p h → AllStand new q (Finish_receiving ∷ h)

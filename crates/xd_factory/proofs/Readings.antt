@@ -5,7 +5,7 @@ use Rattle.std.proofs.lemmas.Bool.{and_parts}
 use Rattle.xd_value.specs.Tree.{Tree, is_text, text}
 use Rattle.xd_value.specs.View.{view}
 use Rattle.xd_value.specs.Channels.{channels}
-use Rattle.xd_value.specs.Payload.{IsPayload, FirstFault, IsValue, IsRefusal, IsFault as IsLoadFault}
+use Rattle.xd_value.specs.Payload.{IsPayload, FirstFault, IsValue, IsRefusal, IsLoadFault}
 use Rattle.xd_value.specs.declared.value.Value.{Value}
 use Rattle.xd_value.specs.declared.fault.LoadWhat.{LoadWhat}
 use Rattle.xd_value.specs.declared.fault.LoadFault.{LoadFault}

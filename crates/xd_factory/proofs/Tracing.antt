@@ -2,7 +2,7 @@
 use Rattle.std.proofs.Common.{◌≡◌, ℕ, List, [], ◌∷◌, Bool, true, false, Option, Result, refl, sym, ap, subst, ◌∙◌}
 use Rattle.std.specs.Prelude.{◌&&◌, not, if◌then◌else◌}
 use Rattle.xd_value.specs.Tree.{Tree}
-use Rattle.xd_channel.specs.State.{EndState, fresh, is_done, end_of, arrive_gives, after_arrive, after_put, after_peer_close, after_close, after_give_up, after_hook, hook_gives, receive_gives, after_receive}
+use Rattle.xd_channel.specs.State.{EndState, fresh_end, is_done, end_of, arrive_gives, after_arrive, after_put, after_peer_close, after_close, after_give_up, after_hook, hook_gives, receive_gives, after_receive}
 use Rattle.xd_channel.specs.History.{EndCall, Arrive, Peer_close, Peer_last, Lose, Close as Close_end, Give_up, Set_callback, Receive, send_open, end_given, Stands}
 use Rattle.xd_channel.specs.declared.end.End.{End}
 use Rattle.xd_channel.specs.declared.end.End.TheVariants.{LastMessage, Lost}
@@ -129,12 +129,12 @@ hooked_stands (Here s) d r e k = subst (λ (x : Result (List Tree × Option End)
     by_callback true h = kept (is_done s) open_done (subst (λ (t : EndState Tree). SlotStands (gone_where_done t) (on_end (Set_callback (hook_gives s)) d)) (same h) all)
 
 -- a number opens
-pub opened_stands : (d : List Deed) → d ≡ [] → SlotStands (Here fresh) (Opens ∷ d)
-opened_stands d h = subst (λ (x : List Deed). SlotStands (Here fresh) (Opens ∷ x)) (sym h) (record { open_still = refl; end_stands = stands-fresh })
+pub opened_stands : (d : List Deed) → d ≡ [] → SlotStands (Here fresh_end) (Opens ∷ d)
+opened_stands d h = subst (λ (x : List Deed). SlotStands (Here fresh_end) (Opens ∷ x)) (sym h) (record { open_still = refl; end_stands = stands-fresh })
 
 pub named_stands : (mine : Bool) (s : Slot Tree) (d : List Deed) → SlotStands s d → SlotStands (named_slot mine s) (named_deeds mine d)
 named_stands true Unseen d k = ap (named_deeds true) k
-named_stands false Unseen d k = subst (λ (x : List Deed). SlotStands (Here fresh) (named_deeds false x)) (sym k) (record { open_still = refl; end_stands = stands-fresh })
+named_stands false Unseen d k = subst (λ (x : List Deed). SlotStands (Here fresh_end) (named_deeds false x)) (sym k) (record { open_still = refl; end_stands = stands-fresh })
 named_stands mine (Here s) [] k = absurd (let z = k.open_still in cc)
 named_stands mine (Here s) (x ∷ d) k = k
 named_stands mine Gone [] k = absurd (let z = k.touched in cc)

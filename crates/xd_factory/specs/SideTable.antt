@@ -3,7 +3,7 @@ use Rattle.std.specs.Prelude.{◌≡◌, ℕ, ◌+◌, ◌==◌, List, length, B
 use Rattle.std.specs.Ordering.{nat_cmp}
 use Rattle.std.specs.List.Sorted.{IsStrictlySortedBy}
 use Rattle.xd_value.specs.Tree.{Tree}
-use Rattle.xd_channel.specs.State.{fresh}
+use Rattle.xd_channel.specs.State.{fresh_end}
 use Rattle.xd_frame.specs.Message.{MessageView}
 use Rattle.xd_factory.specs.declared.parity.Parity.{Parity}
 use Rattle.xd_factory.specs.declared.taken.Taken.{Taken}
@@ -39,7 +39,7 @@ changed_at n f t = record t { slot = λ c. if n == c then f (t.slot c) else t.sl
 
 -- the next own number opens
 abbrev pub opened : ChannelTable → ChannelTable
-opened t = record t { slot = λ c. if t.next == c then Here fresh else t.slot c; next = t.next + 2 }
+opened t = record t { slot = λ c. if t.next == c then Here fresh_end else t.slot c; next = t.next + 2 }
 
 -- a message was taken
 abbrev pub heard_of_message : Said → ChannelTable → ChannelTable

@@ -1,7 +1,7 @@
 -- What a side has at one number, and what each call and each message makes of it. After execnet's gateway_base.py;
 -- that an entry leaves the table for good is a choice of this project.
 use Rattle.std.specs.Prelude.{not, List, [], Bool, true, false, Option, Some, None, Result, Ok, Err, if◌then◌else◌}
-use Rattle.xd_channel.specs.State.{EndState, fresh, arrive_gives, after_arrive, put_gives, after_put, after_peer_close, after_close, give_up_gives, after_give_up, after_hook, got_of, after_receive, is_done}
+use Rattle.xd_channel.specs.State.{EndState, fresh_end, arrive_gives, after_arrive, put_gives, after_put, after_peer_close, after_close, give_up_gives, after_give_up, after_hook, got_of, after_receive, is_done}
 use Rattle.xd_channel.specs.declared.answers.GivenUp.{GivenUp}
 use Rattle.xd_channel.specs.declared.answers.GivenUp.TheVariants as given_up
 use Rattle.xd_channel.specs.declared.answers.Got.{Got}
@@ -44,7 +44,7 @@ left_slot done Gone = Gone
 
 -- the number opens
 abbrev pub opened_slot : {V : Type 0} → Slot V → Slot V
-opened_slot Unseen = Here fresh
+opened_slot Unseen = Here fresh_end
 opened_slot (Here s) = Here s
 opened_slot Gone = Gone
 
@@ -56,7 +56,7 @@ is_new mine Gone = false
 
 -- a message names the number: one of the peer's that was never seen opens
 abbrev pub named_slot : {V : Type 0} → Bool → Slot V → Slot V
-named_slot mine Unseen = if mine then Unseen else Here fresh
+named_slot mine Unseen = if mine then Unseen else Here fresh_end
 named_slot mine (Here s) = Here s
 named_slot mine Gone = Gone
 

@@ -126,10 +126,10 @@ abbrev pub close_refusal : Bool → Bool → Option CloseFault
 close_refusal seen long = if not seen then Some close.Unknown else (if long then Some close.TooLong else None)
 
 -- a refusal is this one, or memory ran out
-abbrev pub IsRefusal : Option CloseFault → CloseFault → Type 0
-IsRefusal wanted close.OutOfMemory = Unit {0}
-IsRefusal wanted close.Unknown = wanted ≡ Some close.Unknown
-IsRefusal wanted close.TooLong = wanted ≡ Some close.TooLong
+abbrev pub IsCloseRefusal : Option CloseFault → CloseFault → Type 0
+IsCloseRefusal wanted close.OutOfMemory = Unit {0}
+IsCloseRefusal wanted close.Unknown = wanted ≡ Some close.Unknown
+IsCloseRefusal wanted close.TooLong = wanted ≡ Some close.TooLong
 
 -- why a close is refused whose text got no payload
 abbrev pub close_fault_of : DumpFault → CloseFault

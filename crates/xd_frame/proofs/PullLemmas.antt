@@ -14,7 +14,7 @@ use Rattle.xd_frame.specs.declared.pull.PullFault.TheVariants.{Bad, ReadFault, O
 use Rattle.xd_frame.specs.Message.{MessageView, frame, frames}
 use Rattle.xd_frame.specs.Header.{header_read}
 use Rattle.xd_frame.specs.Stream.{AreBytes, Clean, Rest, Refused, Unfinished, left_over, end_meaning, header_in_front, message_of, messages, parts, parts_within, rest, rest_by, rest_of}
-use Rattle.xd_frame.specs.Framer.{FramerView, Holds, fresh, StandsFor, feed_gives}
+use Rattle.xd_frame.specs.Framer.{FramerView, Holds, fresh_framer, StandsForBytes, feed_gives}
 use Rattle.xd_frame.specs.Pull.{AnswersTo, CountsSo, HoldsLess, IsLess, Pulls, few, begun, refused, missing, refusal_by, pull_fault_of, whole_of}
 use Rattle.xd_frame.specs.Pulling.{Draws, DrawsSo, is_out_of_memory}
 use Rattle.xd_frame.proofs.Front.{some_front}
@@ -68,7 +68,7 @@ whole_once bytes h e =
     let twice : messages bytes ≡ messages bytes ++ messages (left_over bytes) = sym (ap messages (append-nil bytes)) ∙ (messages-append bytes [] ∙ ap (λ (b : List ℕ). messages bytes ++ messages b) (append-nil (left_over bytes))) in
     omega (arith, ap length twice, length-append (messages bytes) (messages (left_over bytes)), ap length says.0)
 
-none_standing : (s : FramerView) (given : List ℕ) (taken : List MessageView) → GoesOn s → StandsFor s given taken → header_in_front s.held ≡ Ok None
+none_standing : (s : FramerView) (given : List ℕ) (taken : List MessageView) → GoesOn s → StandsForBytes s given taken → header_in_front s.held ≡ Ok None
 none_standing s given taken g k =
     let whole = k.whole g.failed in
     let held : s.held ≡ left_over given = held_is (rest given) s.held (left_over given) (subst (λ (r : Rest). feed_gives r ≡ Ok tt) whole.ends g.readable) whole.holds in
@@ -95,16 +95,16 @@ err f = Err f
 nil_past : (n : ℕ) (a : List ℕ) → length a ≡ n → drop n a ≡ []
 nil_past n a e = nil_of (drop n a) (omega (arith, length-drop n a))
 
-stands_same : (s t : FramerView) (given : List ℕ) (taken : List MessageView) → t.waiting ≡ s.waiting → t.held ≡ s.held → (t.failed ≡ false → s.failed ≡ false) → StandsFor s given taken → StandsFor t given taken
+stands_same : (s t : FramerView) (given : List ℕ) (taken : List MessageView) → t.waiting ≡ s.waiting → t.held ≡ s.held → (t.failed ≡ false → s.failed ≡ false) → StandsForBytes s given taken → StandsForBytes t given taken
 stands_same s t given taken w h f k = record {
   first = (k.first.0, k.first.1 ∙ ap (λ (l : List MessageView). (taken ++ l) ++ k.first.0) (sym w));
   whole = λ x. let o = k.whole (f x) in record { all = ap (λ (l : List MessageView). taken ++ l) w ∙ o.all; ends = ap rest_of h ∙ o.ends; holds = subst (λ (b : List ℕ). Holds (rest given) b (left_over given)) (sym h) o.holds };
 }
 
-unread : (s t : FramerView) (given piece : List ℕ) (taken : List MessageView) → piece ≡ [] → t.waiting ≡ s.waiting → t.held ≡ s.held → (t.failed ≡ false → s.failed ≡ false) → StandsFor s given taken → StandsFor t (given ++ piece) (taken ++ [])
+unread : (s t : FramerView) (given piece : List ℕ) (taken : List MessageView) → piece ≡ [] → t.waiting ≡ s.waiting → t.held ≡ s.held → (t.failed ≡ false → s.failed ≡ false) → StandsForBytes s given taken → StandsForBytes t (given ++ piece) (taken ++ [])
 unread s t given piece taken none w h f k =
-    subst (λ (l : List MessageView). StandsFor t (given ++ piece) l) (sym (append-nil taken))
-    (subst (λ (b : List ℕ). StandsFor t b taken) (sym (ap (λ (l : List ℕ). given ++ l) none ∙ append-nil given)) (stands_same s t given taken w h f k))
+    subst (λ (l : List MessageView). StandsForBytes t (given ++ piece) l) (sym (append-nil taken))
+    (subst (λ (b : List ℕ). StandsForBytes t b taken) (sym (ap (λ (l : List ℕ). given ++ l) none ∙ append-nil given)) (stands_same s t given taken w h f k))
 
 less_same : (s t : FramerView) (given piece : List ℕ) (taken : List MessageView) → piece ≡ [] → t.held ≡ s.held → HoldsLess s given taken → HoldsLess t (given ++ piece) (taken ++ [])
 less_same s t given piece taken none h k = record {
@@ -151,12 +151,12 @@ module _ (s t : FramerView) (before after : Spring) (waits : s.waiting ≡ []) (
   g = goes_on s goes
 
   -- no message is whole after the bytes that were read
-  stands_more : (piece given : List ℕ) (taken : List MessageView) → messages (s.held ++ piece) ≡ [] → left_over (s.held ++ piece) ≡ s.held ++ piece → t.held ≡ s.held ++ piece → StandsFor s given taken → StandsFor t (given ++ piece) (taken ++ [])
+  stands_more : (piece given : List ℕ) (taken : List MessageView) → messages (s.held ++ piece) ≡ [] → left_over (s.held ++ piece) ≡ s.held ++ piece → t.held ≡ s.held ++ piece → StandsForBytes s given taken → StandsForBytes t (given ++ piece) (taken ++ [])
   stands_more piece given taken m b h k =
-      subst (λ (l : List MessageView). StandsFor t (given ++ piece) l) (sym (append-nil taken))
+      subst (λ (l : List MessageView). StandsForBytes t (given ++ piece) l) (sym (append-nil taken))
       (feed_takes s t given piece taken g.failed g.readable (none_waits ∙ (sym m ∙ ap (λ (l : List MessageView). l ++ messages (s.held ++ piece)) (sym waits))) (h ∙ sym b) k)
 
-  stands_whole : (piece given : List ℕ) (taken : List MessageView) (h : Header) (m : MessageView) → m ≡ message_of h (s.held ++ piece) → header_in_front (s.held ++ piece) ≡ Ok (Some h) → length (s.held ++ piece) ≡ 9 + h.length → t.held ≡ [] → t.failed ≡ false → StandsFor s given taken → StandsFor t (given ++ piece) (taken ++ m ∷ [])
+  stands_whole : (piece given : List ℕ) (taken : List MessageView) (h : Header) (m : MessageView) → m ≡ message_of h (s.held ++ piece) → header_in_front (s.held ++ piece) ≡ Ok (Some h) → length (s.held ++ piece) ≡ 9 + h.length → t.held ≡ [] → t.failed ≡ false → StandsForBytes s given taken → StandsForBytes t (given ++ piece) (taken ++ m ∷ [])
   stands_whole piece given taken h m is e size none ok k =
       let all = s.held ++ piece in
       let says = front_says all (Ok (Some h)) e in
@@ -171,16 +171,16 @@ module _ (s t : FramerView) (before after : Spring) (waits : s.waiting ≡ []) (
     asked : length d.piece ≤ missing s.held
     asked = omega (arith, d.asked)
 
-    ends_at : (given : List ℕ) (taken : List MessageView) (ends : Rest) → t.failed ≡ false → rest_of t.held ≡ ends → StandsFor t (given ++ d.piece) taken → rest (given ++ d.piece) ≡ ends
+    ends_at : (given : List ℕ) (taken : List MessageView) (ends : Rest) → t.failed ≡ false → rest_of t.held ≡ ends → StandsForBytes t (given ++ d.piece) taken → rest (given ++ d.piece) ≡ ends
     ends_at given taken ends ok is k = sym (k.whole ok).ends ∙ is
 
-    stands : (given : List ℕ) (taken : List MessageView) → StandsFor s given taken → StandsFor t (given ++ d.piece) (taken ++ whole_of r)
+    stands : (given : List ℕ) (taken : List MessageView) → StandsForBytes s given taken → StandsForBytes t (given ++ d.piece) (taken ++ whole_of r)
     stands given taken k = by r failed d.so
       where
         front : header_in_front s.held ≡ Ok None
         front = none_standing s given taken g k
 
-        by : (x : Result Pulled PullFault) → t.failed ≡ is_out_of_memory x → DrawsSo x s.held d.piece t.held after → StandsFor t (given ++ d.piece) (taken ++ whole_of x)
+        by : (x : Result Pulled PullFault) → t.failed ≡ is_out_of_memory x → DrawsSo x s.held d.piece t.held after → StandsForBytes t (given ++ d.piece) (taken ++ whole_of x)
         by (Ok More) f so = let says = front_says (s.held ++ d.piece) (Ok None) so.2 in stands_more d.piece given taken says.0 says.1 so.1 k
         by (Ok (Whole m)) f so = stands_whole d.piece given taken so.2.0 m so.2.2 so.2.1 (just_whole s.held d.piece so.2.0 front asked so.2.1) so.1 f k
         by (Ok Ended) f so = unread s t given d.piece taken so.1.none same_waiting so.1.kept (λ _. g.failed) k
@@ -189,13 +189,13 @@ module _ (s t : FramerView) (before after : Spring) (waits : s.waiting ≡ []) (
         by (Err ReadFault) f so = unread s t given d.piece taken so.0 same_waiting so.1 (λ _. g.failed) k
         by (Err OutOfMemory) f so = unread s t given d.piece taken so.0 same_waiting so.1 (λ _. g.failed) k
 
-    answer : (given : List ℕ) (taken : List MessageView) → StandsFor s given taken → AnswersTo r (rest (given ++ d.piece)) d.piece after
+    answer : (given : List ℕ) (taken : List MessageView) → StandsForBytes s given taken → AnswersTo r (rest (given ++ d.piece)) d.piece after
     answer given taken k = by r failed d.so (stands given taken k)
       where
         front : header_in_front s.held ≡ Ok None
         front = none_standing s given taken g k
 
-        by : (x : Result Pulled PullFault) → t.failed ≡ is_out_of_memory x → DrawsSo x s.held d.piece t.held after → StandsFor t (given ++ d.piece) (taken ++ whole_of x) → AnswersTo x (rest (given ++ d.piece)) d.piece after
+        by : (x : Result Pulled PullFault) → t.failed ≡ is_out_of_memory x → DrawsSo x s.held d.piece t.held after → StandsForBytes t (given ++ d.piece) (taken ++ whole_of x) → AnswersTo x (rest (given ++ d.piece)) d.piece after
         by (Ok More) f so l = (ends_at given (taken ++ []) Unfinished f (ap rest_of so.1 ∙ open_end (s.held ++ d.piece) (some_append s.held d.piece so.0) so.2) l, so.0)
         by (Ok (Whole m)) f so l = (ends_at given (taken ++ m ∷ []) Clean f (ap rest_of so.1) l, so.0)
         by (Ok Ended) f so l = (ends_at given (taken ++ []) Clean f (ap rest_of (so.1.kept ∙ so.0)) l, so.1.none, so.1.end (missing_some s.held front))
@@ -252,5 +252,5 @@ pulls_nothing fault s before e = record {
 }
 
 -- a new framer holds nothing
-pub holds_fresh : (s : FramerView) → s ≡ fresh → HoldsLess s [] []
+pub holds_fresh : (s : FramerView) → s ≡ fresh_framer → HoldsLess s [] []
 holds_fresh s e = record { bytes = ap (λ (v : FramerView). v.held) (sym e); less = few (omega (arith, ap (λ (v : FramerView). length v.held) e)) }

@@ -13,7 +13,7 @@ use Rattle.xd_frame.specs.declared.pull.PullFault.TheVariants.{Bad, ReadFault, O
 use Rattle.xd_frame.specs.Message.{MessageView, frames}
 use Rattle.xd_frame.specs.Header.{header_read}
 use Rattle.xd_frame.specs.Stream.{Rest, Clean, Unfinished, Refused, end_meaning, rest, rest_of}
-use Rattle.xd_frame.specs.Framer.{FramerView, StandsFor}
+use Rattle.xd_frame.specs.Framer.{FramerView, StandsForBytes}
 
 -- how many bytes one read asks for at most: a choice of this project
 abbrev pub read_size : ℕ
@@ -90,6 +90,6 @@ pub record Pulls (result : Result Pulled PullFault) (old new : FramerView) (befo
   pub gave : Gave piece before.supply after.supply
   pub asked : length piece ≤ min read_size (missing old.held)
   pub count : CountsSo result before.faults after.faults
-  pub stands : (given : List ℕ) (taken : List MessageView) → StandsFor old given taken → StandsFor new (given ++ piece) (taken ++ whole_of result)
-  pub answer : pull_fault_of old ≡ None → (given : List ℕ) (taken : List MessageView) → StandsFor old given taken → AnswersTo result (rest (given ++ piece)) piece after
+  pub stands : (given : List ℕ) (taken : List MessageView) → StandsForBytes old given taken → StandsForBytes new (given ++ piece) (taken ++ whole_of result)
+  pub answer : pull_fault_of old ≡ None → (given : List ℕ) (taken : List MessageView) → StandsForBytes old given taken → AnswersTo result (rest (given ++ piece)) piece after
   pub less : (given : List ℕ) (taken : List MessageView) → HoldsLess old given taken → HoldsLess new (given ++ piece) (taken ++ whole_of result)

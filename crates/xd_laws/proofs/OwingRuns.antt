@@ -8,7 +8,7 @@ use Rattle.xd_journal.specs.declared.settings.Settings.{Settings}
 use Rattle.xd_journal.specs.declared.entry.Entry.{Entry}
 use Rattle.xd_journal.specs.declared.entry.Entry.TheVariants.{Start}
 use Rattle.xd_ledger.specs.Numbers.{among}
-use Rattle.xd_ledger.specs.Table.{Table, fresh}
+use Rattle.xd_ledger.specs.Table.{Table, fresh_table}
 use Rattle.xd_ledger.specs.Plan.{is_scope}
 use Rattle.xd_ledger.specs.Workers.{started}
 use Rattle.xd_ledger.specs.Stops.{is_stopped}
@@ -36,7 +36,7 @@ use Rattle.xd_laws.proofs.OwingInputs.{step-owing}
 
 -- n workers were started, each at the slot of its number, and nothing else happened
 record Opening (s : State) (w : ℕ) : Type 0 where
-  rota : s.books.table ≡ fresh []
+  rota : s.books.table ≡ fresh_table []
   shared : s.books.shared ≡ false
   unstopped : is_stopped s.books ≡ false
   open_ : s.books.shutting ≡ false

@@ -9,7 +9,7 @@ use Rattle.xd_edge.specs.declared.mode.ModeKind.{ModeKind}
 use Rattle.xd_ledger.specs.Numbers.{among, times}
 use Rattle.xd_ledger.specs.Plan.{Handed}
 use Rattle.xd_ledger.specs.Scopes.{scope_of}
-use Rattle.xd_ledger.specs.Units.{Group, added, grouped, put, largest_first, units, unless_empty, units_left}
+use Rattle.xd_ledger.specs.Units.{Group, added, grouped, put_unit, largest_first, units, unless_empty, units_left}
 use Rattle.xd_ledger.specs.Orderly.{not_empty}
 use Rattle.xd_ledger.specs.Suits.{tests_of_units}
 use Rattle.xd_laws.proofs.Logic.{split-and, and, in_both}
@@ -65,21 +65,21 @@ none_empty-grouped mode k (id ∷ ids) gs h = none_empty-grouped mode (k + 1) id
 
 -- their order
 
-tests-put : (x : ℕ) (u : List ℕ) (us : List (List ℕ)) → times x (tests_of_units (put u us)) ≡ times x u + times x (tests_of_units us)
+tests-put : (x : ℕ) (u : List ℕ) (us : List (List ℕ)) → times x (tests_of_units (put_unit u us)) ≡ times x u + times x (tests_of_units us)
 tests-put x u [] = times-append x u []
 tests-put x u (v ∷ vs) =
     let a = times-append x u (v ++ tests_of_units vs) in
     let b = times-append x v (tests_of_units vs) in
-    let c = times-append x v (tests_of_units (put u vs)) in
+    let c = times-append x v (tests_of_units (put_unit u vs)) in
     let r = tests-put x u vs in
-    elim (nat_le (length v) (length u)) as (λ q. times x (tests_of_units (if q then u ∷ v ∷ vs else v ∷ put u vs)) ≡ times x u + times x (tests_of_units (v ∷ vs)))
+    elim (nat_le (length v) (length u)) as (λ q. times x (tests_of_units (if q then u ∷ v ∷ vs else v ∷ put_unit u vs)) ≡ times x u + times x (tests_of_units (v ∷ vs)))
     [ true ↦ a | false ↦ omega (arith, b, c, r) ]
 
-none_empty-put : (u : List ℕ) (us : List (List ℕ)) → not_empty u ≡ true → none_empty us ≡ true → none_empty (put u us) ≡ true
+none_empty-put : (u : List ℕ) (us : List (List ℕ)) → not_empty u ≡ true → none_empty us ≡ true → none_empty (put_unit u us) ≡ true
 none_empty-put u [] h k = and h refl
 none_empty-put u (v ∷ vs) h k =
     let r = none_empty-put u vs h in
-    elim (nat_le (length v) (length u)) as (λ q. none_empty (if q then u ∷ v ∷ vs else v ∷ put u vs) ≡ true) [ true ↦ and h k | false ↦ grind (arith, nat_tests, r, k) ]
+    elim (nat_le (length v) (length u)) as (λ q. none_empty (if q then u ∷ v ∷ vs else v ∷ put_unit u vs) ≡ true) [ true ↦ and h k | false ↦ grind (arith, nat_tests, r, k) ]
 
 tests-sorted : (x : ℕ) (us : List (List ℕ)) → times x (tests_of_units (largest_first us)) ≡ times x (tests_of_units us)
 tests-sorted x [] = refl

@@ -4,7 +4,7 @@ use Rattle.std.specs.Prelude.{◌==◌, ◌||◌, if◌then◌else◌}
 use Rattle.std.proofs.lemmas.Bool.Decides.{nat_tests}
 use Rattle.std.proofs.lemmas.List.{get_or_read, get_or_past, take_more}
 use Rattle.xd_ledger.specs.Numbers.{times, among, without, all_among, all_distinct, first_of}
-use Rattle.xd_ledger.specs.Chains.{Lists, chain_at, chains_of, number_count, is_free, at, owner_of, no_chain, chain, AreChains, changed, shifted, poured, final_of, part_before, part_after}
+use Rattle.xd_ledger.specs.Chains.{Lists, chain_at, chains_of, number_count, is_unchained, at, owner_of, no_chain, chain, AreChains, changed, shifted, poured, final_of, part_before, part_after}
 use Rattle.xd_ledger.proofs.Links.{last_or, first_or, same, swapped, without-around, back-of, next-of, times-last, times-first, times-append}
 use Rattle.xd_ledger.proofs.ChainMoves.{Gives, by_cases, equals, changed-here, changed-else, stands-once, take_gives, put_gives, put_first_gives, place-fits, stands-few, stands-around, stands-below, chains-long, among-once}
 
@@ -102,7 +102,7 @@ put_room n p o c k x s h below =
 pub put_room_at : (n p o c : List ℕ) (now : Lists) (k x : ℕ) → record { next = n; owner = o; counts = c } ≡ now → AreChains n p o c (chain n o c) → k < chains_of now → x < number_count now → PutRoom n p o c k x
 put_room_at n p o c now k x e s = subst (λ (l : Lists). k < chains_of l → x < number_count l → PutRoom n p o c k x) e (put_room n p o c k x s)
 
-pub put_done : (n p o c : List ℕ) (now : Lists) (k x end last ck : ℕ) → record { next = n; owner = o; counts = c } ≡ now → AreChains n p o c (chain n o c) → k < chains_of now → x < number_count now → is_free x now ≡ true
+pub put_done : (n p o c : List ℕ) (now : Lists) (k x end last ck : ℕ) → record { next = n; owner = o; counts = c } ≡ now → AreChains n p o c (chain n o c) → k < chains_of now → x < number_count now → is_unchained x now ≡ true
     → end ≡ length o + k → last ≡ get_or p end last → ck ≡ get_or c k ck
     → Gives (set (set n last x) x end) (set (set p x last) end x) (set o x k) (set c k (ck + 1)) (changed k (chain_at now k ++ x ∷ []) (chain_at now))
 put_done n p o c now k x end last ck e s h b f ee el ec =
@@ -115,9 +115,9 @@ put_done n p o c now k x end last ck e s h b f ee el ec =
     λ h2 b2 f2. subst (λ i. Gives (set (set n last x) x end) (set (set p x last) end x) (set o x k) (set c k (i + 1)) (changed k (chain n o c k ++ x ∷ []) (chain n o c))) gc
     (subst (λ i. Gives (set (set n last x) x i) (set (set p x last) i x) (set o x k) (set c k (at c k + 1)) (changed k (chain n o c k ++ x ∷ []) (chain n o c))) ge
     (subst (λ i. Gives (set (set n i x) x (length o + k)) (set (set p x i) (length o + k) x) (set o x k) (set c k (at c k + 1)) (changed k (chain n o c k ++ x ∷ []) (chain n o c))) gl (put_gives n p o c k x s h2 b2 f2))) in
-    subst (λ (l : Lists). k < chains_of l → x < number_count l → is_free x l ≡ true → Gives (set (set n last x) x end) (set (set p x last) end x) (set o x k) (set c k (ck + 1)) (changed k (chain_at l k ++ x ∷ []) (chain_at l))) e body h b f
+    subst (λ (l : Lists). k < chains_of l → x < number_count l → is_unchained x l ≡ true → Gives (set (set n last x) x end) (set (set p x last) end x) (set o x k) (set c k (ck + 1)) (changed k (chain_at l k ++ x ∷ []) (chain_at l))) e body h b f
 
-pub put_first_done : (n p o c : List ℕ) (now : Lists) (k x end first ck : ℕ) → record { next = n; owner = o; counts = c } ≡ now → AreChains n p o c (chain n o c) → k < chains_of now → x < number_count now → is_free x now ≡ true
+pub put_first_done : (n p o c : List ℕ) (now : Lists) (k x end first ck : ℕ) → record { next = n; owner = o; counts = c } ≡ now → AreChains n p o c (chain n o c) → k < chains_of now → x < number_count now → is_unchained x now ≡ true
     → end ≡ length o + k → first ≡ get_or n end first → ck ≡ get_or c k ck
     → Gives (set (set n end x) x first) (set (set p x end) first x) (set o x k) (set c k (ck + 1)) (changed k (x ∷ chain_at now k) (chain_at now))
 put_first_done n p o c now k x end first ck e s h b f ee ef ec =
@@ -130,7 +130,7 @@ put_first_done n p o c now k x end first ck e s h b f ee ef ec =
     λ h2 b2 f2. subst (λ i. Gives (set (set n end x) x first) (set (set p x end) first x) (set o x k) (set c k (i + 1)) (changed k (x ∷ chain n o c k) (chain n o c))) gc
     (subst (λ i. Gives (set (set n i x) x first) (set (set p x i) first x) (set o x k) (set c k (at c k + 1)) (changed k (x ∷ chain n o c k) (chain n o c))) ge
     (subst (λ i. Gives (set (set n (length o + k) x) x i) (set (set p x (length o + k)) i x) (set o x k) (set c k (at c k + 1)) (changed k (x ∷ chain n o c k) (chain n o c))) gf (put_first_gives n p o c k x s h2 b2 f2))) in
-    subst (λ (l : Lists). k < chains_of l → x < number_count l → is_free x l ≡ true → Gives (set (set n end x) x first) (set (set p x end) first x) (set o x k) (set c k (ck + 1)) (changed k (x ∷ chain_at l k) (chain_at l))) e body h b f
+    subst (λ (l : Lists). k < chains_of l → x < number_count l → is_unchained x l ≡ true → Gives (set (set n end x) x first) (set (set p x end) first x) (set o x k) (set c k (ck + 1)) (changed k (x ∷ chain_at l k) (chain_at l))) e body h b f
 
 -- lists after two changes
 

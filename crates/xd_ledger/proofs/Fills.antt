@@ -9,7 +9,7 @@ use Rattle.xd_ledger.specs.Chains.{Lists, chain_at, chains_of, changed}
 use Rattle.xd_ledger.specs.Numbers.{times, without, first_of}
 use Rattle.xd_ledger.specs.Posts.{seat_of, seats, chains_in, chain_in, table_of, released, IsKept}
 use Rattle.xd_ledger.specs.Sound.{IsSound}
-use Rattle.xd_ledger.specs.Table.{Table, fresh, held_in, held_by_all, all_items, retried_item, has_joined, joined}
+use Rattle.xd_ledger.specs.Table.{Table, fresh_table, held_in, held_by_all, all_items, retried_item, has_joined, joined}
 use Rattle.xd_ledger.proofs.ChainMoves.{by_cases, equals, changed-here, changed-else}
 use Rattle.xd_ledger.proofs.Counts.{few_of-kind}
 use Rattle.xd_ledger.proofs.Kept.{Has, kept_again, table-eq, released-pool, released-else, released-rest}
@@ -39,7 +39,7 @@ rest_is retry r r2 n l mid e d a h = h ∙ ap length (a r ∙ released-rest retr
 
 pub new_kept : (l : Lists) (room items : ℕ) → items ≡ room → items ≤ 1600000 → ((j : ℕ) → chain_at l j ≡ changed 0 (range_with_len 0 items) (λ _. []) j) → chains_of l ≡ 1 → IsKept l [] [] [] room
 new_kept l room items e h a c = record {
-  sound = subst (λ xs. IsSound (fresh xs) room) (sym (a 0 ∙ changed-here 0 (range_with_len 0 items) (λ _. []) 0 (same 0))) (fresh_sound items room e h);
+  sound = subst (λ xs. IsSound (fresh_table xs) room) (sym (a 0 ∙ changed-here 0 (range_with_len 0 items) (λ _. []) 0 (same 0))) (fresh_sound items room e h);
   pool_there = omega arith;
   once = λ k. omega arith;
   known = λ k i. absurd (omega arith);
@@ -122,7 +122,7 @@ pub new_at : (l : Lists) (ps : List Post) (reported who : List ℕ) (room items 
 new_at l ps reported who room items ep er ew e h a c =
     subst (λ qs. IsKept l qs reported who room) (sym ep) (subst (λ rs. IsKept l [] rs who room) (sym er) (subst (λ ws. IsKept l [] [] ws room) (sym ew) (new_kept l room items e h a c)))
 
-pub new_is : (l : Lists) (ps : List Post) (reported who : List ℕ) (items : ℕ) → ps ≡ [] → reported ≡ [] → who ≡ [] → ((j : ℕ) → chain_at l j ≡ changed 0 (range_with_len 0 items) (λ _. []) j) → table_of (chain_at l) ps reported who ≡ fresh (range_with_len 0 items)
+pub new_is : (l : Lists) (ps : List Post) (reported who : List ℕ) (items : ℕ) → ps ≡ [] → reported ≡ [] → who ≡ [] → ((j : ℕ) → chain_at l j ≡ changed 0 (range_with_len 0 items) (λ _. []) j) → table_of (chain_at l) ps reported who ≡ fresh_table (range_with_len 0 items)
 new_is l ps reported who items ep er ew a =
     let pool : chain_at l 0 ≡ range_with_len 0 items = a 0 ∙ changed-here 0 (range_with_len 0 items) (λ _. []) 0 (same 0) in
     let f : List Post → List ℕ → List ℕ → List ℕ → Table = λ qs rs ws xs. record { pool = xs; rota = seats (chain_at l) qs; reported = rs; who_joined = ws } in

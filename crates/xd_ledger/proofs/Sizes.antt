@@ -7,7 +7,7 @@ use Rattle.std.proofs.lemmas.Grind.{common_steps}
 use Rattle.xd_ledger.specs.declared.seat.Seat.{Seat}
 use Rattle.xd_ledger.specs.Numbers.{among, times, all_distinct, all_among, first_of}
 use Rattle.xd_ledger.specs.Sound.{IsSound}
-use Rattle.xd_ledger.specs.Table.{Table, fresh, held_in, held_by_all, all_items}
+use Rattle.xd_ledger.specs.Table.{Table, fresh_table, held_in, held_by_all, all_items}
 use Rattle.xd_ledger.proofs.Places.{times-append, times-table}
 
 pub length-table : (t : Table) → length (all_items t) ≡ length t.pool + (length (held_by_all t.rota) + length t.reported)
@@ -67,7 +67,7 @@ length-range : (a n : ℕ) → length (range_with_len a n) ≡ n
 length-range a zero = refl
 length-range a (suc n) = ap suc (length-range (a + 1) n)
 
-pub fresh_sound : (n room : ℕ) → n ≡ room → n ≤ 1600000 → IsSound (fresh (range_with_len 0 n)) room
+pub fresh_sound : (n room : ℕ) → n ≡ room → n ≤ 1600000 → IsSound (fresh_table (range_with_len 0 n)) room
 fresh_sound n room e h = record {
   once = λ x. (let k = times-range x 0 n in omega (arith, times-append x (range_with_len 0 n) []));
   seated_once = λ w. omega arith;

@@ -36,8 +36,8 @@ abbrev pub chain_at : Lists → ℕ → List ℕ
 chain_at l k = chain l.next l.owner l.counts k
 
 -- the number stands in none
-abbrev pub is_free : ℕ → Lists → Bool
-is_free x l = owner_of l.owner x == no_chain
+abbrev pub is_unchained : ℕ → Lists → Bool
+is_unchained x l = owner_of l.owner x == no_chain
 
 -- how many numbers there are
 abbrev pub number_count : Lists → ℕ

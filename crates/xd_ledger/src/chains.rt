@@ -2,7 +2,7 @@
 ghost use Rattle.std.specs.Prelude.{◌≡◌, ℕ, take, drop, slice_index, ◌+◌, ◌-◌, replicate, is_ok, IfOk, OnOk, ◌<◌, ◌≤◌, ◌==◌, [], ◌∷◌, ◌++◌, length, nat_lt, true, false, Some, None, if◌then◌else◌};
 ghost use Rattle.std.specs.List.{range_with_len};
 ghost use Rattle.xd_ledger.specs.Numbers.{among, all_among, all_distinct, without, first_of};
-ghost use Rattle.xd_ledger.specs.Chains.{chain_at, is_free, number_count, chains_of, changed, shifted, poured, part_before, part_after, final_of};
+ghost use Rattle.xd_ledger.specs.Chains.{chain_at, is_unchained, number_count, chains_of, changed, shifted, poured, part_before, part_after, final_of};
 
 use std::alloc::{AllocError, Global};
 use std::marker::Model;
@@ -122,7 +122,7 @@ impl Chains {
         ensures lists { (j : ℕ) →
             chain_at self.new j ≡ changed chain (without (item ∷ []) (chain_at self.old chain))
             (chain_at self.old) j }
-        ensures free { is_free item self.new ≡ true }
+        ensures free { is_unchained item self.new ≡ true }
         ensures items { number_count self.new ≡ number_count self.old }
         ensures chains { chains_of self.new ≡ chains_of self.old }
         ensures below { item < number_count self.old }
@@ -139,7 +139,7 @@ impl Chains {
     pub(crate) fn put(&mut self, chain: u32, item: u32)
         requires known { chain < chains_of self.old }
         requires below { item < number_count self.old }
-        requires free { is_free item self.old ≡ true }
+        requires free { is_unchained item self.old ≡ true }
         ensures lists { (j : ℕ) →
             chain_at self.new j ≡ changed chain (chain_at self.old chain ++ item ∷ [])
             (chain_at self.old) j }
@@ -160,7 +160,7 @@ impl Chains {
     pub(crate) fn put_first(&mut self, chain: u32, item: u32)
         requires known { chain < chains_of self.old }
         requires below { item < number_count self.old }
-        requires free { is_free item self.old ≡ true }
+        requires free { is_unchained item self.old ≡ true }
         ensures lists { (j : ℕ) →
             chain_at self.new j ≡ changed chain (item ∷ chain_at self.old chain)
             (chain_at self.old) j }

@@ -8,7 +8,7 @@ ghost use Rattle.xd_ledger.specs.Ending.{stop_of};
 ghost use Rattle.xd_report.specs.Status.{status_of};
 ghost use Rattle.xd_drive.specs.Driven.{IsJournalOf};
 ghost use Rattle.xd_note.specs.Noted.{noted};
-ghost use Rattle.xd_session.specs.Stands.{CanBegin, StandsFor};
+ghost use Rattle.xd_session.specs.Stands.{CanBegin, StandsForNews};
 ghost use Rattle.xd_ledger.specs.State.{no_one};
 ghost use Rattle.std.specs.List.{list_all};
 ghost use Rattle.xd_starts.specs.Children.{is_killed_and_reaped, told_of};
@@ -61,7 +61,7 @@ fn run_over<R: Wait, M: Mode, St: Starter, C: Crew<Reader<St::Src>>, O: Sink>(
     hub: &mut GatewayHub<St, C>,
     out: &mut O,
 ) -> Result<(DrivenRun, Vec<LinkEnd<St::Src, St::Snk>>), OutOfMemory>
-    requires begins { StandsFor [] session }
+    requires begins { StandsForNews [] session }
     requires slots { session.settings.workers ≤ vec_len hub.old.places }
     requires no_calls { noted hub.old.group.diary.calls ≡ [] }
     requires no_news { noted hub.old.group.diary.given ≡ [] }

@@ -13,7 +13,7 @@ use Rattle.xd_link.proofs.SpringLemmas.{gave_none}
 use Rattle.xd_post.specs.Post.{Ring}
 use Rattle.xd_reader.specs.declared.news.LinkNews.{LinkNews}
 use Rattle.xd_worker.specs.declared.worker.WorkerCore.{WorkerCore}
-use Rattle.xd_worker.specs.Stands.{StandsFor}
+use Rattle.xd_worker.specs.Stands.{StandsForInputs}
 use Rattle.xd_listen.specs.declared.server.Door.TheVariants as door
 use Rattle.xd_listen.specs.declared.stop.Stop.{Stop}
 use Rattle.xd_listen.specs.declared.stop.Stop.TheVariants as stop
@@ -68,7 +68,7 @@ module _ (held : Option Held) (sunk0 sunk : Option Sunk) (faults0 faults files :
   abbrev pub at_first : List (Option (Ring × List LinkNews)) → List (List (List ℕ)) → Seen
   at_first mails orders = record { core = core; broken = broken; sunk = sunk; sink_faults = faults; mails = mails; orders = orders; ring = ring; started = None; door = door.Open; link_stop = None; short = false }
 
-  first_serves : (mails : List (Option (Ring × List LinkNews))) → broken ≡ false → StandsFor core [] → Spoke held [] [] (not broken) (voice sunk0 faults0 files) (voice sunk faults files) → mails ≡ two place [] [] → ServesSoFar place (beside files clock) nothing (at_first mails [])
+  first_serves : (mails : List (Option (Ring × List LinkNews))) → broken ≡ false → StandsForInputs core [] → Spoke held [] [] (not broken) (voice sunk0 faults0 files) (voice sunk faults files) → mails ≡ two place [] [] → ServesSoFar place (beside files clock) nothing (at_first mails [])
   first_serves mails whole stands spoke are = record {
     heard = record {
       inputs = [];
@@ -85,7 +85,7 @@ module _ (held : Option Held) (sunk0 sunk : Option Sunk) (faults0 faults files :
     taken = record { mails_are = are; noted = tt };
   }
 
-  pub begun : (mails : List (Option (Ring × List LinkNews))) (orders : List (List (List ℕ))) → broken ≡ false → StandsFor core [] → Spoke held [] [] (not broken) (voice sunk0 faults0 files) (voice sunk faults files) → mails ≡ two place [] [] → orders ≡ []
+  pub begun : (mails : List (Option (Ring × List LinkNews))) (orders : List (List (List ℕ))) → broken ≡ false → StandsForInputs core [] → Spoke held [] [] (not broken) (voice sunk0 faults0 files) (voice sunk faults files) → mails ≡ two place [] [] → orders ≡ []
       → ServesSoFar place (beside files clock) nothing (at_first mails orders)
   begun mails orders whole stands spoke are none = subst (λ (l : List (List (List ℕ))). ServesSoFar place (beside files clock) nothing (at_first mails l)) (sym none) (first_serves mails whole stands spoke are)
 

@@ -22,7 +22,7 @@ use Rattle.xd_run_tests.specs.declared.phase.Phase.TheVariants as phase
 use Rattle.xd_run_tests.specs.declared.ask.Ask.TheVariants.{Tell}
 use Rattle.xd_run_tests.specs.declared.input.Input.{Input}
 use Rattle.xd_run_tests.specs.declared.input.Input.TheVariants as input
-use Rattle.xd_run_tests.specs.Line.{FunctionCall, left, front, queue, running_test, head_test, can_give, can_ask, all_queued, kept, taken}
+use Rattle.xd_run_tests.specs.Line.{FunctionCall, left, front, queue, running_test, head_test, can_give, can_ask, all_queued, kept, stolen_tests}
 use Rattle.xd_run_tests.specs.Turns.{CallTurn as Act, call_turn_of as act_of, answered, over, ended_early, ending_text, asking, moved_on, line_settled, given, stolen, stolen_if, told, item_heard_in, receiving_ended_in}
 use Rattle.xd_run_tests.specs.History.{call_after, turn_after}
 use Rattle.xd_gateway.specs.declared.function.Called.{Called}
@@ -96,7 +96,7 @@ given_busy n room ns t f = go (can_give t.call.size t.call.line ns)
 stolen_busy : (n : ℕ) (ns : List ℕ) (t : Act) → Busy n t → Busy n (stolen ns t)
 stolen_busy n ns t f = go (all_queued (queue t.call) ns)
   where
-    go : (b : Bool) → Busy n (if b then asking (Tell (Back (taken ns (queue t.call))) ∷ []) (lined (front t.call ++ kept ns (queue t.call)) t) else asking (Tell (Back []) ∷ []) t)
+    go : (b : Bool) → Busy n (if b then asking (Tell (Back (stolen_tests ns (queue t.call))) ∷ []) (lined (front t.call ++ kept ns (queue t.call)) t) else asking (Tell (Back []) ∷ []) t)
     go true = front_busy n t (kept ns (queue t.call)) f
     go false = f
 

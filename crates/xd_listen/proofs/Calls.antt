@@ -17,7 +17,7 @@ use Rattle.xd_run_tests.specs.declared.phase.Phase.TheVariants as phase
 use Rattle.xd_run_tests.specs.declared.ask.Ask.TheVariants.{Tell}
 use Rattle.xd_run_tests.specs.declared.input.Input.{Input}
 use Rattle.xd_run_tests.specs.declared.input.Input.TheVariants as input
-use Rattle.xd_run_tests.specs.Line.{FunctionCall, left, front, queue, running_test, head_test, can_give, can_ask, all_queued, kept, taken}
+use Rattle.xd_run_tests.specs.Line.{FunctionCall, left, front, queue, running_test, head_test, can_give, can_ask, all_queued, kept, stolen_tests}
 use Rattle.xd_run_tests.specs.Turns.{CallTurn, call_turn_of, answered, answered_in, over, ended_early, ending_text, asking, finished, test_started, has_log, too_many_channels, moved_on, line_settled, given, stolen, stolen_if, told, item_heard_in, item_heard, all_heard, serving_suite, collected_in, receiving_ended_in, suite_refused_in, put_out, output_fed, told_done, done_in, call_stopped}
 use Rattle.xd_listen.specs.Running.{rests}
 
@@ -115,7 +115,7 @@ given_fresh room ns t f r = go (can_give t.call.size t.call.line ns)
 stolen_fresh : (ns : List ℕ) (t : CallTurn) → Fresh t → Fresh (stolen ns t)
 stolen_fresh ns t f = go (all_queued (queue t.call) ns)
   where
-    go : (b : Bool) → Fresh (if b then asking (Tell (Back (taken ns (queue t.call))) ∷ []) (lined (front t.call ++ kept ns (queue t.call)) t) else asking (Tell (Back []) ∷ []) t)
+    go : (b : Bool) → Fresh (if b then asking (Tell (Back (stolen_tests ns (queue t.call))) ∷ []) (lined (front t.call ++ kept ns (queue t.call)) t) else asking (Tell (Back []) ∷ []) t)
     go true = front_fresh t (kept ns (queue t.call)) f
     go false = f
 

@@ -20,8 +20,8 @@ use Rattle.xd_reader.specs.Judged.{link_stop_of}
 use Rattle.xd_reader.specs.Reads.{PutsAll, StopsAt}
 use Rattle.xd_runner.specs.Orders.{ArePieces, EndsCut, EndsWell, IsCommand, IsPiece, Mails, Order, Runs as Ran1, RunsOrders, ProgramsSeen as Programs1, ToldOfProgram, news_of_programs, ran_of, told_news}
 use Rattle.xd_runner.specs.Programs.{AreRun, Ran, faults_of}
-use Rattle.xd_worker.specs.History.{is_over, worker_after}
-use Rattle.xd_listen.specs.Inputs.{has_end, has_terminate, messages_in}
+use Rattle.xd_worker.specs.History.{is_worker_over, worker_after}
+use Rattle.xd_listen.specs.Inputs.{has_link_end, has_terminate, messages_in}
 use Rattle.xd_listen.specs.Programs.{output_in, ran_in}
 use Rattle.xd_listen.specs.Took.{TookAll, TookToLast}
 use Rattle.xd_listen.specs.declared.stop.Stop.{Stop}
@@ -336,7 +336,7 @@ module _ (a : Setting) (now : Beside) (s : Seen) (before : Sources) (old new : S
   sink_rose true count (inr z) = cc
 
   -- GATEWAY_TERMINATE was taken
-  terminated : stop.Terminated ≡ why → closed ≡ true → TookToLast ms × (has_end c.heard.inputs ≡ false) × (is_over (worker_after c.heard.history) ≡ true) → (l : LinkStop) → l ≡ reads.stop → Ends (terminated_by l) a.held s0 s1 old new
+  terminated : stop.Terminated ≡ why → closed ≡ true → TookToLast ms × (has_link_end c.heard.inputs ≡ false) × (is_worker_over (worker_after c.heard.history) ≡ true) → (l : LinkStop) → l ≡ reads.stop → Ends (terminated_by l) a.held s0 s1 old new
   terminated e z t l f = by l (stops l f)
     where
       well : s1.faults ≡ s0.faults → Ends stop.Terminated a.held s0 s1 old new

@@ -11,7 +11,7 @@ use Rattle.xd_worker.specs.declared.input.WorkerInput.TheVariants.{Message, Suit
 use Rattle.xd_worker.specs.Worker.{Worker, WorkerTurn, worker_turn_of}
 use Rattle.xd_worker.specs.Turns.{Came, Told as Says, SuiteRead, NoSuite, Printed, ChildEnded, LinkEnded, worker_turned}
 use Rattle.xd_worker.specs.History.{HeardInput, Is, MessageSays, IsSuite, turn_by}
-use Rattle.xd_listen.specs.Inputs.{IsDue, has_terminate, is_terminate_kind, is_link_end, is_of_link, message_in}
+use Rattle.xd_listen.specs.Inputs.{IsDue, has_terminate, is_terminate_kind, is_link_end, is_link_input, message_in}
 use Rattle.xd_listen.specs.Suites.{FilesGave}
 use Rattle.xd_listen.specs.Programs.{commands_of}
 use Rattle.xd_listen.specs.declared.server.Door.{Door}
@@ -59,7 +59,7 @@ no_commands u e = ap (λ (r : Option ℕ). map (run_at u.duties.tests) (option_t
 
 -- an input that is of the files
 pub record Aside (i : WorkerInput) : Type 0 where
-  pub link : is_of_link i ≡ false
+  pub link : is_link_input i ≡ false
   pub last : is_link_end i ≡ false
   pub message : message_in i ≡ []
   pub due : (w : Worker) → w.duties.owed ≡ true → IsDue w i

@@ -20,9 +20,9 @@ use Rattle.xd_worker.specs.declared.worker.WorkerCore.{WorkerCore}
 use Rattle.xd_worker.specs.Worker.{Worker, WorkerTurn, worker_turn_of, after_turn}
 use Rattle.xd_worker.specs.Turns.{Came, Told as Says, SuiteRead, NoSuite, Printed, ChildEnded, LinkEnded, worker_turned}
 use Rattle.xd_worker.specs.History.{HeardInput, MessageSays, turn_by, worker_after}
-use Rattle.xd_worker.specs.Stands.{Answers, StandsFor}
+use Rattle.xd_worker.specs.Stands.{Answers, StandsForInputs}
 use Rattle.xd_listen.specs.Running.{call_of_service, rests}
-use Rattle.xd_listen.specs.Inputs.{IsDue, has_end, has_terminate, is_terminate_kind, is_link_end, is_of_link, message_in, messages_in}
+use Rattle.xd_listen.specs.Inputs.{IsDue, has_link_end, has_terminate, is_terminate_kind, is_link_end, is_link_input, message_in, messages_in}
 use Rattle.xd_listen.specs.Programs.{commands_in, commands_of}
 use Rattle.xd_listen.specs.Took.{TookToLast}
 use Rattle.xd_listen.specs.Suites.{FilesGave, AnswersAsking, asked_path}
@@ -48,7 +48,7 @@ spoken core broken sunk faults s = record s { core = core; broken = broken; sunk
 -- what an input adds
 pub spoke_more : (held : Option Held) (inputs : List WorkerInput) (h : List HeardInput) (b0 b1 : Bool) (first v0 v1 : Voice) (core : WorkerCore) (i : WorkerInput) (acts : WorkerActions)
     → b0 ≡ false → Spoke held inputs h (not b0) first v0 → (a : Answers core (worker_after h) i acts) → IsDue (worker_after h) i → AnswersAsking held (Rose first.file_faults v1.file_faults) (asked_path h) i
-    → (is_of_link i ≡ true → has_end inputs ≡ false) → WritesMore b0 b1 (frames acts.say) v0.sunk v1.sunk → CountSince b0 b1 v0.sink_faults v1.sink_faults → v0.sink_faults ≤ v1.sink_faults → v0.file_faults ≤ v1.file_faults
+    → (is_link_input i ≡ true → has_link_end inputs ≡ false) → WritesMore b0 b1 (frames acts.say) v0.sunk v1.sunk → CountSince b0 b1 v0.sink_faults v1.sink_faults → v0.sink_faults ≤ v1.sink_faults → v0.file_faults ≤ v1.file_faults
     → Spoke held (i ∷ inputs) (a.heard ∷ h) (not b1) first v1
 spoke_more held inputs h b0 b1 first v0 v1 core i acts whole t a due follows once writes count later files = record {
   heard = (record { is = a.is; counts = a.counts; due = due }, t.heard);
@@ -143,7 +143,7 @@ module _ (a : Setting) (now : Beside) (s : Seen) (core : WorkerCore) (broken : B
     (writes : WritesMore s.broken broken (frames acts.say) s.sunk sunk) (count : CountSince s.broken broken s.sink_faults faults) (later : s.sink_faults ≤ faults) where
   -- what is said to one more input
   spoke_on : (files : ℕ) (owed : Owed) (i : WorkerInput) (g : ServesSoFar a now owed s) (x : Answers core (worker_after g.heard.history) i acts) → s.broken ≡ false → IsDue (worker_after g.heard.history) i → AnswersAsking a.held (Rose a.first.file_faults files) owed.path i
-      → (is_of_link i ≡ true → has_end g.heard.inputs ≡ false) → now.file_faults ≤ files → Spoke a.held (i ∷ g.heard.inputs) (x.heard ∷ g.heard.history) (not broken) a.first (voice sunk faults files)
+      → (is_link_input i ≡ true → has_link_end g.heard.inputs ≡ false) → now.file_faults ≤ files → Spoke a.held (i ∷ g.heard.inputs) (x.heard ∷ g.heard.history) (not broken) a.first (voice sunk faults files)
   spoke_on files owed i g x whole due follows once more =
       spoke_more a.held g.heard.inputs g.heard.history s.broken broken a.first (voice s.sunk s.sink_faults now.file_faults) (voice sunk faults files) core i acts whole g.heard.spoke x due
       (subst (λ (p : Option (List ℕ)). AnswersAsking a.held (Rose a.first.file_faults files) p i) (sym g.heard.path_is) follows) once writes count later more
@@ -152,7 +152,7 @@ module _ (a : Setting) (now : Beside) (s : Seen) (core : WorkerCore) (broken : B
   still_taken : (owed : Owed) (t : Seen) (of_reader of_runner more : List LinkNews) → more ≡ [] → TakenSoFar a owed t of_reader of_runner → TakenSoFar a owed t of_reader (of_runner ++ more)
   still_taken owed t of_reader of_runner more e taken = subst (λ (l : List LinkNews). TakenSoFar a owed t of_reader l) (sym (append-nil of_runner) ∙ ap (λ (l : List LinkNews). of_runner ++ l) (sym e)) taken
 
-  pub message_heard : (m : MessageView) (last : Bool) → is_terminate_kind m.kind ≡ last → s.door ≡ door.Open → ((h : List HeardInput) → StandsFor s.core h → Answers core (worker_after h) (Message m) acts)
+  pub message_heard : (m : MessageView) (last : Bool) → is_terminate_kind m.kind ≡ last → s.door ≡ door.Open → ((h : List HeardInput) → StandsForInputs s.core h → Answers core (worker_after h) (Message m) acts)
       → ServesSoFar a now (owed_of_link (news.Message m)) s → ServesSoFar a now (to_start acts.suite) (record (spoken core broken sunk faults s) { door = door_after last s.door })
   message_heard m last e o answers g =
       let h = g.heard.history in
@@ -191,7 +191,7 @@ module _ (a : Setting) (now : Beside) (s : Seen) (core : WorkerCore) (broken : B
   end_suite None w k u r = ((link_end_does w k r).ends refl).1
   end_suite (Some moment) w k u r = (link_end_keeps w k r.test r.runs r.busy u).suite
 
-  pub end_heard : s.door ≡ door.Open → ((h : List HeardInput) → StandsFor s.core h → Answers core (worker_after h) LinkEnd acts)
+  pub end_heard : s.door ≡ door.Open → ((h : List HeardInput) → StandsForInputs s.core h → Answers core (worker_after h) LinkEnd acts)
       → ServesSoFar a now (owed_of_link (news.End link.Ended)) s → ServesSoFar a now (to_start None) (record (spoken core broken sunk faults s) { door = door.Ended })
   end_heard o answers g =
       let h = g.heard.history in
@@ -238,15 +238,15 @@ module _ (a : Setting) (now : Beside) (s : Seen) (core : WorkerCore) (broken : B
       same : messages_in (i ∷ inputs) ≡ messages_in inputs
       same = ap (λ (l : List MessageView). messages_in inputs ++ l) m ∙ append-nil (messages_in inputs)
 
-      end : has_end (i ∷ inputs) ≡ has_end inputs
-      end = ap (λ (b : Bool). b || has_end inputs) e
+      end : has_link_end (i ∷ inputs) ≡ has_link_end inputs
+      end = ap (λ (b : Bool). b || has_link_end inputs) e
 
       by : (c : Door) → FromLink c inputs got → FromLink c (i ∷ inputs) got
       by door.Open x = record { got_is = x.got_is ∙ ap (map news.Message) (sym same); none_last = ap has_terminate same ∙ x.none_last; no_end = end ∙ x.no_end }
       by door.Terminated x = record { later = x.later; got_is = x.got_is ∙ ap (λ (l : List MessageView). map news.Message l ++ x.later) (sym same); last = subst TookToLast (sym same) x.last; no_end = end ∙ x.no_end }
       by door.Ended x = record { later = x.later; got_is = x.got_is ∙ ap (λ (l : List MessageView). map news.Message l ++ news.End link.Ended ∷ x.later) (sym same); none_last = ap has_terminate same ∙ x.none_last; end = end ∙ x.end }
 
-  pub output_heard : (piece : List ℕ) → IsSome s.started → length piece ≤ 4096 → ((h : List HeardInput) → StandsFor s.core h → Answers core (worker_after h) (Output piece) acts)
+  pub output_heard : (piece : List ℕ) → IsSome s.started → length piece ≤ 4096 → ((h : List HeardInput) → StandsForInputs s.core h → Answers core (worker_after h) (Output piece) acts)
       → ServesSoFar a now (of_program (news.Output piece)) s → ServesSoFar a now (to_start None) (spoken core broken sunk faults s)
   output_heard piece some few answers g =
       let h = g.heard.history in
@@ -276,7 +276,7 @@ module _ (a : Setting) (now : Beside) (s : Seen) (core : WorkerCore) (broken : B
         taken = g.taken;
       }
 
-  pub done_heard : (outcome : Outcome) (ms : ℕ) (clock : Ticking) → IsSome s.started → IfSome s.started (λ start. Ticks (start + ms) now.clock clock) → ((h : List HeardInput) → StandsFor s.core h → Answers core (worker_after h) (ChildDone outcome ms) acts)
+  pub done_heard : (outcome : Outcome) (ms : ℕ) (clock : Ticking) → IsSome s.started → IfSome s.started (λ start. Ticks (start + ms) now.clock clock) → ((h : List HeardInput) → StandsForInputs s.core h → Answers core (worker_after h) (ChildDone outcome ms) acts)
       → ServesSoFar a now (of_program (news.ChildDone outcome)) s → ServesSoFar a (beside now.file_faults clock) (to_start None) (record (spoken core broken sunk faults s) { started = None })
   done_heard outcome ms clock some measured answers g =
       let h = g.heard.history in
@@ -312,7 +312,7 @@ module _ (a : Setting) (now : Beside) (s : Seen) (core : WorkerCore) (broken : B
 
   -- ---- a suite
 
-  pub suite_heard : (path : List ℕ) (i : WorkerInput) (files1 : ℕ) → s.broken ≡ false → FilesGave a.held (Rose now.file_faults files1) path i → now.file_faults ≤ files1 → ((h : List HeardInput) → StandsFor s.core h → Answers core (worker_after h) i acts)
+  pub suite_heard : (path : List ℕ) (i : WorkerInput) (files1 : ℕ) → s.broken ≡ false → FilesGave a.held (Rose now.file_faults files1) path i → now.file_faults ≤ files1 → ((h : List HeardInput) → StandsForInputs s.core h → Answers core (worker_after h) i acts)
       → ServesSoFar a now (to_start (Some path)) s → ServesSoFar a (beside files1 now.clock) (to_start None) (spoken core broken sunk faults s)
   suite_heard path i files1 whole gave more answers g =
       let h = g.heard.history in

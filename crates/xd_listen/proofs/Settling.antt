@@ -16,8 +16,8 @@ use Rattle.xd_worker.specs.declared.input.WorkerFault.{WorkerFault}
 use Rattle.xd_worker.specs.declared.input.WorkerFault.TheVariants as fault
 use Rattle.xd_worker.specs.declared.worker.WorkerCore.{WorkerCore}
 use Rattle.xd_worker.specs.Worker.{Worker, running_in}
-use Rattle.xd_worker.specs.History.{HeardInput, is_over, worker_after}
-use Rattle.xd_worker.specs.Stands.{FaultHasReason, StandsFor}
+use Rattle.xd_worker.specs.History.{HeardInput, is_worker_over, worker_after}
+use Rattle.xd_worker.specs.Stands.{FaultHasReason, StandsForInputs}
 use Rattle.xd_listen.specs.Running.{call_of_service}
 use Rattle.xd_listen.specs.Inputs.{has_terminate, messages_in}
 use Rattle.xd_listen.specs.Programs.{AreLeft, last_commands}
@@ -30,7 +30,7 @@ use Rattle.xd_listen.specs.declared.stop.Stop.TheVariants as stop
 use Rattle.xd_listen.specs.Halts.{Ceased, Ceases, CeasesBy, Goes, IsStrange, IsUncalled, Strayed, is_sink_whole, over_by, worker_status_of}
 use Rattle.xd_listen.specs.News.{news_in}
 use Rattle.xd_listen.specs.Seen.{Seen, is_door_shut}
-use Rattle.xd_listen.specs.Serves.{Beside, beside, FromLink, HeardEnd, HeardLast, IsBusy, NoneEmpty, Owed, RunsTest, RunsSo, ServesSoFar, Setting, left_of, nothing, owed_of_link, of_program, to_start, with_item}
+use Rattle.xd_listen.specs.Serves.{Beside, beside, FromLink, HeardEnd, HeardLast, IsBusy, NoneEmpty, Owed, RunsTest, RunsSo, ServesSoFar, Setting, left_commands, nothing, owed_of_link, of_program, to_start, with_item}
 use Rattle.xd_edge.specs.Clock.{Ticking, Ticks}
 use Rattle.xd_listen.specs.Timing.{durations_in, one_if}
 use Rattle.xd_listen.specs.Spoke.{Spoke, voice}
@@ -59,7 +59,7 @@ left_is (command ∷ more) w test e r =
     (ap (λ (l : List (List (List ℕ))). command ∷ l) r.2 ∙ ap (λ (c : List (List ℕ)). c ∷ []) (r.1 ∙ ap (run_at w.duties.tests) same), b)
 
 module _ (a : Setting) (now : Beside) (s : Seen) where
-  pub ordered : (test moment : ℕ) (command : List (List ℕ)) (clock : Ticking) → Ticks moment now.clock clock → s.started ≡ None → RunsTest test s.core → ((h : List HeardInput) → StandsFor s.core h → command ≡ run_at (worker_after h).duties.tests test) → 0 < length command → s.broken ≡ false
+  pub ordered : (test moment : ℕ) (command : List (List ℕ)) (clock : Ticking) → Ticks moment now.clock clock → s.started ≡ None → RunsTest test s.core → ((h : List HeardInput) → StandsForInputs s.core h → command ≡ run_at (worker_after h).duties.tests test) → 0 < length command → s.broken ≡ false
       → ServesSoFar a now (to_start None) s → ServesSoFar a (beside now.file_faults clock) nothing (record s { started = Some moment; orders = s.orders ++ command ∷ [] })
   ordered test moment command clock ticks none runs is some whole g =
       let h = g.heard.history in
@@ -114,7 +114,7 @@ module _ (a : Setting) (now : Beside) (s : Seen) where
   idle_left (Some m) [] w e r = let z = sym (running_is w.duties.service ∙ r.runs) ∙ e in cc
   idle_left (Some m) (c ∷ left) w e r = absurd r
 
-  over_if : (w : Worker) → w.duties.stopped ≡ true → running_in w.duties.service ≡ None → is_over w ≡ true
+  over_if : (w : Worker) → w.duties.stopped ≡ true → running_in w.duties.service ≡ None → is_worker_over w ≡ true
   over_if w e f = both w.duties.stopped (is_none (running_in w.duties.service)) e (none_is (running_in w.duties.service) f)
     where
       both : (a b : Bool) → a ≡ true → b ≡ true → (a && b) ≡ true
@@ -127,7 +127,7 @@ module _ (a : Setting) (now : Beside) (s : Seen) where
 
   -- the worker listens no more: what it heard so far is what it heard in all
   ceases : (path : Option (List ℕ)) (item : Option LinkNews) (starts : Bool) (g : ServesSoFar a now (owes path item starts) s) (why : Stop) (preceding later : List LinkNews) → not s.broken ≡ is_sink_whole why → (is_sink_whole why ≡ true → path ≡ None)
-      → (worker_status_of why ≡ 0 → one_if s.started ≡ 0) → AreLeft (is_sink_whole why) (left_of starts g.heard.history) g.heard.history → with_item item g.heard.of_reader ≡ map news.Message (messages_in g.heard.inputs) ++ (preceding ++ later)
+      → (worker_status_of why ≡ 0 → one_if s.started ≡ 0) → AreLeft (is_sink_whole why) (left_commands starts g.heard.history) g.heard.history → with_item item g.heard.of_reader ≡ map news.Message (messages_in g.heard.inputs) ++ (preceding ++ later)
       → Ceases why g.heard.inputs g.heard.history preceding → Ceased a now why s
   ceases path item starts g why preceding later whole asks idle left link cause =
       let count = count_of a now (owes path item starts) s g in
@@ -135,7 +135,7 @@ module _ (a : Setting) (now : Beside) (s : Seen) where
         heard = record {
           inputs = g.heard.inputs;
           history = g.heard.history;
-          left = left_of starts g.heard.history;
+          left = left_commands starts g.heard.history;
           preceding = preceding;
           running = one_if s.started;
           spoke = subst (λ (b : Bool). Spoke a.held g.heard.inputs g.heard.history b a.first (voice s.sunk s.sink_faults now.file_faults)) whole g.heard.spoke;
@@ -160,13 +160,13 @@ module _ (a : Setting) (now : Beside) (s : Seen) where
       }
 
   -- nothing runs
-  pub idle_goes : s.broken ≡ false → ((h : List HeardInput) → StandsFor s.core h → running_in (worker_after h).duties.service ≡ None) → ServesSoFar a now (to_start None) s → Goes (over_by s.door) a now s
+  pub idle_goes : s.broken ≡ false → ((h : List HeardInput) → StandsForInputs s.core h → running_in (worker_after h).duties.service ≡ None) → ServesSoFar a now (to_start None) s → Goes (over_by s.door) a now s
   idle_goes whole none g = by s.door refl
     where
       l : (last_commands g.heard.history ≡ []) × (s.started ≡ None)
       l = idle_left s.started (last_commands g.heard.history) (worker_after g.heard.history) (none g.heard.history g.heard.stands) g.left.runs
 
-      over : is_door_shut s.door ≡ true → is_over (worker_after g.heard.history) ≡ true
+      over : is_door_shut s.door ≡ true → is_worker_over (worker_after g.heard.history) ≡ true
       over e = over_if (worker_after g.heard.history) (g.heard.stopped ∙ e) (none g.heard.history g.heard.stands)
 
       ceased : (why : Stop) (preceding later : List LinkNews) → is_sink_whole why ≡ true → g.heard.of_reader ≡ map news.Message (messages_in g.heard.inputs) ++ (preceding ++ later) → Ceases why g.heard.inputs g.heard.history preceding → Ceased a now why s
@@ -205,7 +205,7 @@ module _ (a : Setting) (now : Beside) (s : Seen) where
       let x = listens s.door g.heard.inputs g.heard.of_reader o g.heard.from_link in
       ceased_before why (news.End stop) w three o g (cause g.heard.inputs g.heard.history x.none_last)
 
-  pub message_ceases : (m : MessageView) (f : WorkerFault) → s.door ≡ door.Open → ((h : List HeardInput) → StandsFor s.core h → FaultHasReason (worker_after h) (Message m) f) → ServesSoFar a now (owed_of_link (news.Message m)) s → CeasesBy f a now s
+  pub message_ceases : (m : MessageView) (f : WorkerFault) → s.door ≡ door.Open → ((h : List HeardInput) → StandsForInputs s.core h → FaultHasReason (worker_after h) (Message m) f) → ServesSoFar a now (owed_of_link (news.Message m)) s → CeasesBy f a now s
   message_ceases m (fault.Link f) o refused g =
       let x = listens s.door g.heard.inputs g.heard.of_reader o g.heard.from_link in
       ceased_before (stop.Message f) (news.Message m) refl refl o g (m, refl, x.none_last, x.no_end, refused g.heard.history g.heard.stands)

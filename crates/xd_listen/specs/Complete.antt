@@ -11,7 +11,7 @@ use Rattle.xd_worker.specs.History.{HeardInput}
 use Rattle.xd_listen.specs.declared.stop.Stop.{Stop}
 use Rattle.xd_listen.specs.declared.stop.Stop.TheVariants as stop
 use Rattle.xd_listen.specs.Ends.{RunsPrograms, Scene, voice_of}
-use Rattle.xd_listen.specs.Inputs.{has_end, has_terminate, messages_in}
+use Rattle.xd_listen.specs.Inputs.{has_link_end, has_terminate, messages_in}
 use Rattle.xd_listen.specs.Spoke.{Spoke, voice}
 use Rattle.xd_listen.specs.Took.{TookToRefused}
 
@@ -25,7 +25,7 @@ pub record RefusesOne (held : Option Held) (bytes : List ℕ) (fault : SideFault
   pub spoke : Spoke held inputs history true (voice_of old) (voice sunk new.sink_faults new.file_faults)
   pub shut : new.sunk ≡ option_map with_close sunk
   pub programs : RunsPrograms inputs history [] unheard old new
-  pub no_end : has_end inputs ≡ false
+  pub no_end : has_link_end inputs ≡ false
   pub refused : TookToRefused (messages bytes) (messages_in inputs) history fault
 
 -- What is wrong with a link that has these bytes: they end inside a message or with a header that is refused, and

@@ -11,8 +11,8 @@ use Rattle.xd_link.specs.Spring.{ReadToEnd, Spring}
 use Rattle.xd_reader.specs.declared.news.LinkStop.{LinkStop}
 use Rattle.xd_reader.specs.declared.news.LinkStop.TheVariants as link
 use Rattle.xd_worker.specs.declared.input.WorkerInput.{WorkerInput}
-use Rattle.xd_worker.specs.History.{HeardInput, is_over, worker_after}
-use Rattle.xd_listen.specs.Inputs.{has_end, messages_in}
+use Rattle.xd_worker.specs.History.{HeardInput, is_worker_over, worker_after}
+use Rattle.xd_listen.specs.Inputs.{has_link_end, messages_in}
 use Rattle.xd_runner.specs.Programs.{AreRun, Ran, faults_of}
 use Rattle.xd_listen.specs.Programs.{AreLeft, commands_in, output_in, ran_in}
 use Rattle.xd_listen.specs.Took.{TookAll, TookToLast, TookToRefused}
@@ -77,15 +77,15 @@ abbrev pub IsCause : Stop → List ℕ → List WorkerInput → List HeardInput 
 IsCause stop.NotRun bytes inputs h s0 s1 old new =
     (bytes ≡ []) × (inputs ≡ []) × (Rose old.reader_refusals new.reader_refusals ⊎ Rose old.runner_refusals new.runner_refusals)
 IsCause stop.Terminated bytes inputs h s0 s1 old new =
-    TookToLast (messages_in inputs) × (has_end inputs ≡ false) × (is_over (worker_after h) ≡ true)
+    TookToLast (messages_in inputs) × (has_link_end inputs ≡ false) × (is_worker_over (worker_after h) ≡ true)
 IsCause stop.Ended bytes inputs h s0 s1 old new =
-    TookAll (messages bytes) (messages_in inputs) × (has_end inputs ≡ true) × (is_over (worker_after h) ≡ true) × ReadToEnd s1 × (rest bytes ≡ Clean)
+    TookAll (messages bytes) (messages_in inputs) × (has_link_end inputs ≡ true) × (is_worker_over (worker_after h) ≡ true) × ReadToEnd s1 × (rest bytes ≡ Clean)
 IsCause stop.Cut bytes inputs h s0 s1 old new =
     TookAll (messages bytes) (messages_in inputs) × ReadToEnd s1 × (rest bytes ≡ Unfinished)
 IsCause (stop.Header fault) bytes inputs h s0 s1 old new =
     TookAll (messages bytes) (messages_in inputs) × (rest bytes ≡ Refused fault)
 IsCause (stop.Message fault) bytes inputs h s0 s1 old new =
-    TookToRefused (messages bytes) (messages_in inputs) h fault × (has_end inputs ≡ false)
+    TookToRefused (messages bytes) (messages_in inputs) h fault × (has_link_end inputs ≡ false)
 IsCause stop.ReadFault bytes inputs h s0 s1 old new =
     (TookAll (messages bytes) (messages_in inputs) ⊎ TookToLast (messages_in inputs)) × Rose s0.faults s1.faults
 IsCause stop.WriteFault bytes inputs h s0 s1 old new = Rose old.sink_faults new.sink_faults

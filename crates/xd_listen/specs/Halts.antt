@@ -10,10 +10,10 @@ use Rattle.xd_reader.specs.declared.news.LinkStop.TheVariants as link
 use Rattle.xd_frame.specs.Message.{MessageView}
 use Rattle.xd_worker.specs.declared.input.WorkerInput.{WorkerInput}
 use Rattle.xd_worker.specs.declared.input.WorkerInput.TheVariants.{Message}
-use Rattle.xd_worker.specs.History.{HeardInput, RefusesFor, is_over, worker_after}
+use Rattle.xd_worker.specs.History.{HeardInput, RefusesFor, is_worker_over, worker_after}
 use Rattle.xd_worker.specs.declared.input.WorkerFault.{WorkerFault}
 use Rattle.xd_worker.specs.declared.input.WorkerFault.TheVariants as fault
-use Rattle.xd_listen.specs.Inputs.{has_end, has_terminate, messages_in}
+use Rattle.xd_listen.specs.Inputs.{has_link_end, has_terminate, messages_in}
 use Rattle.xd_listen.specs.Took.{TookToLast}
 use Rattle.xd_listen.specs.Suites.{asked_path}
 use Rattle.xd_listen.specs.Programs.{AreLeft, commands_in}
@@ -54,11 +54,11 @@ is_sink_whole stop.WriteFault = false
 -- what is known of the messages that the worker heard, and of the item after them, where it listens no more
 abbrev pub Ceases : Stop → List WorkerInput → List HeardInput → List LinkNews → Type 0
 Ceases stop.NotRun inputs h preceding = ⊥
-Ceases stop.Terminated inputs h preceding = TookToLast (messages_in inputs) × (has_end inputs ≡ false) × (is_over (worker_after h) ≡ true)
-Ceases stop.Ended inputs h preceding = (preceding ≡ news.End link.Ended ∷ []) × (has_terminate (messages_in inputs) ≡ false) × (has_end inputs ≡ true) × (is_over (worker_after h) ≡ true)
+Ceases stop.Terminated inputs h preceding = TookToLast (messages_in inputs) × (has_link_end inputs ≡ false) × (is_worker_over (worker_after h) ≡ true)
+Ceases stop.Ended inputs h preceding = (preceding ≡ news.End link.Ended ∷ []) × (has_terminate (messages_in inputs) ≡ false) × (has_link_end inputs ≡ true) × (is_worker_over (worker_after h) ≡ true)
 Ceases stop.Cut inputs h preceding = (preceding ≡ news.End link.Cut ∷ []) × (has_terminate (messages_in inputs) ≡ false)
 Ceases (stop.Header fault) inputs h preceding = (preceding ≡ news.End (link.Garbled fault) ∷ []) × (has_terminate (messages_in inputs) ≡ false)
-Ceases (stop.Message fault) inputs h preceding = (m : MessageView) × (preceding ≡ news.Message m ∷ []) × (has_terminate (messages_in inputs) ≡ false) × (has_end inputs ≡ false) × RefusesFor (worker_after h) (Message m) fault
+Ceases (stop.Message fault) inputs h preceding = (m : MessageView) × (preceding ≡ news.Message m ∷ []) × (has_terminate (messages_in inputs) ≡ false) × (has_link_end inputs ≡ false) × RefusesFor (worker_after h) (Message m) fault
 Ceases stop.ReadFault inputs h preceding = (preceding ≡ news.End link.ReadFault ∷ []) × (has_terminate (messages_in inputs) ≡ false)
 Ceases stop.WriteFault inputs h preceding = Unit {0}
 

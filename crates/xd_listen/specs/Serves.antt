@@ -13,9 +13,9 @@ use Rattle.xd_worker.specs.declared.input.WorkerInput.{WorkerInput}
 use Rattle.xd_worker.specs.declared.worker.WorkerCore.{WorkerCore}
 use Rattle.xd_worker.specs.Worker.{Worker, running_in}
 use Rattle.xd_worker.specs.History.{HeardInput, worker_after}
-use Rattle.xd_worker.specs.Stands.{StandsFor}
+use Rattle.xd_worker.specs.Stands.{StandsForInputs}
 use Rattle.xd_listen.specs.Running.{call_of_service, rests}
-use Rattle.xd_listen.specs.Inputs.{has_end, has_terminate, messages_in}
+use Rattle.xd_listen.specs.Inputs.{has_link_end, has_terminate, messages_in}
 use Rattle.xd_listen.specs.Programs.{commands_in, last_commands}
 use Rattle.xd_listen.specs.Took.{TookToLast}
 use Rattle.xd_listen.specs.Suites.{asked_path}
@@ -93,21 +93,21 @@ two a of_reader of_runner = Some (a.reader, of_reader) ∷ Some (a.runner, of_ru
 pub record IsListening (inputs : List WorkerInput) (got : List LinkNews) : Type 0 where
   pub got_is : got ≡ map Message (messages_in inputs)
   pub none_last : has_terminate (messages_in inputs) ≡ false
-  pub no_end : has_end inputs ≡ false
+  pub no_end : has_link_end inputs ≡ false
 
 -- The worker heard GATEWAY_TERMINATE as the last message; more items of the reader may have been taken since.
 pub record HeardLast (inputs : List WorkerInput) (got : List LinkNews) : Type 0 where
   pub later : List LinkNews
   pub got_is : got ≡ map Message (messages_in inputs) ++ later
   pub last : TookToLast (messages_in inputs)
-  pub no_end : has_end inputs ≡ false
+  pub no_end : has_link_end inputs ≡ false
 
 -- The worker heard the link's end after all messages; more items of the reader may have been taken since.
 pub record HeardEnd (inputs : List WorkerInput) (got : List LinkNews) : Type 0 where
   pub later : List LinkNews
   pub got_is : got ≡ map Message (messages_in inputs) ++ End link.Ended ∷ later
   pub none_last : has_terminate (messages_in inputs) ≡ false
-  pub end : has_end inputs ≡ true
+  pub end : has_link_end inputs ≡ true
 
 -- What was taken of the reader is what the worker heard, by whether messages are still taken.
 abbrev pub FromLink : Door → List WorkerInput → List LinkNews → Type 0
@@ -145,12 +145,12 @@ NoneEmpty (command ∷ more) = (command ≡ [] → ⊥) × NoneEmpty more
 
 -- this test runs in a worker, whatever it took
 abbrev pub RunsTest : ℕ → WorkerCore → Type 0
-RunsTest test core = (h : List HeardInput) → StandsFor core h → running_in (worker_after h).duties.service ≡ Some test
+RunsTest test core = (h : List HeardInput) → StandsForInputs core h → running_in (worker_after h).duties.service ≡ Some test
 
 -- the commands that are left: where a test may have to be started those that the last input starts, and else none
-abbrev pub left_of : Bool → List HeardInput → List (List (List ℕ))
-left_of true h = last_commands h
-left_of false h = []
+abbrev pub left_commands : Bool → List HeardInput → List (List (List ℕ))
+left_commands true h = last_commands h
+left_commands false h = []
 
 -- The four parts of `ServesSoFar` are record types that have no names of their own: so a part is of one and the same type
 -- for two servers that differ only in what it does not name.
@@ -163,7 +163,7 @@ HeardSoFar a now path s = record {
   history : List HeardInput;
   of_reader : List LinkNews;
   spoke : Spoke a.held inputs history (not s.broken) a.first (voice s.sunk s.sink_faults now.file_faults);
-  stands : StandsFor s.core history;
+  stands : StandsForInputs s.core history;
   path_is : asked_path history ≡ path;
   from_link : FromLink s.door inputs of_reader;
   stopped : (worker_after history).duties.stopped ≡ is_door_shut s.door;
@@ -183,10 +183,10 @@ OrderedSoFar a now s durations = record {
 -- may have to be started the sink is whole.
 abbrev pub LeftSoFar : Owed → Seen → List HeardInput → Type 0
 LeftSoFar owed s history = record {
-  commands : commands_in history ≡ s.orders ++ left_of owed.starts history;
+  commands : commands_in history ≡ s.orders ++ left_commands owed.starts history;
   whole : owed.starts ≡ false → s.broken ≡ false;
-  runs : RunsSo s.started (left_of owed.starts history) (worker_after history);
-  reads : ReadsSo owed.path s.started (left_of owed.starts history) s.door (worker_after history);
+  runs : RunsSo s.started (left_commands owed.starts history) (worker_after history);
+  reads : ReadsSo owed.path s.started (left_commands owed.starts history) s.door (worker_after history);
 }
 
 -- What was taken of the desk: these items of the reader and of the runner, which were done, and the one that is still to

@@ -3,7 +3,7 @@ ghost use Rattle.std.specs.Prelude.{◌≡◌, ℕ, [], Bool, Some};
 ghost use Rattle.xd_link.specs.Spring.{spring};
 ghost use Rattle.xd_post.specs.Mails.{mails};
 ghost use Rattle.xd_post.specs.Post.{put, ring_of_sender};
-ghost use Rattle.xd_runner.specs.Orders.{seen as programs};
+ghost use Rattle.xd_runner.specs.Orders.{programs_seen as programs};
 ghost use Rattle.xd_listen.specs.Ends.{Closes, Served, last_link_stop, scene, terminated_by};
 ghost use Rattle.xd_listen.specs.Halts.{Goes};
 ghost use Rattle.xd_listen.specs.Joined.{Joined, Sources, back};

@@ -23,11 +23,11 @@ pub struct Speaker<N: Sink> {
 impl<N: Sink> Speaker<N> {
     ghost use Rattle.std.specs.Prelude.{[]};
     ghost use Rattle.xd_worker.specs.History.{HeardInput, worker_after};
-    ghost use Rattle.xd_worker.specs.Stands.{StandsFor, Stood, Answers, FaultHasReason};
+    ghost use Rattle.xd_worker.specs.Stands.{StandsForInputs, Stood, Answers, FaultHasReason};
 
     /// A worker to which nothing has come yet, and which has written its greeting.
     pub fn begin(alloc: Global, sink: N) -> Speaker<N>
-        ensures stands { StandsFor result.core [] }
+        ensures stands { StandsForInputs result.core [] }
         ensures writes { Writes (not result.is_broken) greeting (N.sunk sink) (N.sunk result.sink) }
         ensures count { CountAfter (not result.is_broken) (N.faults sink) (N.faults result.sink) }
         ensures later { N.faults sink ≤ N.faults result.sink }
@@ -43,9 +43,9 @@ impl<N: Sink> Speaker<N> {
 
     /// One input. What the worker says to it is written and handed on.
     pub fn hear(&mut self, input: WorkerInput) -> Result<WorkerActions, WorkerFault>
-        ensures answers { (h : List HeardInput) → StandsFor self.old.core h →
+        ensures answers { (h : List HeardInput) → StandsForInputs self.old.core h →
             IfOk result (Answers self.new.core (worker_after h) input) }
-        ensures refused { (h : List HeardInput) → StandsFor self.old.core h →
+        ensures refused { (h : List HeardInput) → StandsForInputs self.old.core h →
             IfErr result (FaultHasReason (worker_after h) input) }
         ensures stood { Stood self.old.core → OnOk result (Stood self.new.core) }
         ensures writes { IfOk result (λ acts.
@@ -70,7 +70,7 @@ impl<N: Sink> Speaker<N> {
 
     /// One input that is no message. The side refuses messages alone.
     pub fn tell(&mut self, input: WorkerInput) -> Result<WorkerActions, OutOfMemory>
-        ensures answers { (h : List HeardInput) → StandsFor self.old.core h →
+        ensures answers { (h : List HeardInput) → StandsForInputs self.old.core h →
             IfOk result (Answers self.new.core (worker_after h) input) }
         ensures stood { Stood self.old.core → OnOk result (Stood self.new.core) }
         ensures writes { IfOk result (λ acts.

@@ -5,7 +5,7 @@ use Rattle.xd_ledger.specs.Plan.{Plan, chunk_of}
 
 -- it keeps the setting of the chunk and the number of tests, and nobody steals
 -- Example: `Load::new` with a chunk of 3 stands for no plan whose chunk is 4.
-pub record StandsFor (setting : Option ℕ) (total : ℕ) (p : Plan) : Type 0 where
+pub record StandsForLoad (setting : Option ℕ) (total : ℕ) (p : Plan) : Type 0 where
   pub mode : p.mode ≡ Load
   pub chunk : p.chunk ≡ setting
   pub tests : sum p.sizes ≡ total

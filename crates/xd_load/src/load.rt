@@ -2,7 +2,7 @@
 ghost use Rattle.std.specs.Prelude.{◌≡◌, [], None, unwrap_or};
 ghost use Rattle.xd_edge.specs.declared.mode.ModeKind.TheVariants.{Load as InModeLoad};
 ghost use Rattle.xd_ledger.specs.Plan.{Plan};
-ghost use Rattle.xd_load.specs.Stands.{StandsFor};
+ghost use Rattle.xd_load.specs.Stands.{StandsForLoad};
 
 use crate::batches::{refill_each, refill_one, share_all};
 use std::alloc::Global;
@@ -36,7 +36,7 @@ impl Load {
 }
 
 impl Mode for Load {
-    ghost stands = { λ m p. StandsFor m.chunk m.tests p };
+    ghost stands = { λ m p. StandsForLoad m.chunk m.tests p };
 
     fn share(
         &mut self,

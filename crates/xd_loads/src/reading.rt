@@ -1,6 +1,6 @@
 // Payloads.
 ghost use Rattle.std.specs.Prelude.{◌≡◌, ◌++◌, ℕ, ◌<◌, IfOk, IfErr};
-ghost use Rattle.xd_value.specs.Payload.{IsPayload, IsRefusal, IsValue, IsFault, FirstFault, Stops, IsPlaced};
+ghost use Rattle.xd_value.specs.Payload.{IsPayload, IsRefusal, IsValue, IsLoadFault, FirstFault, Stops, IsPlaced};
 ghost use Rattle.xd_loads.specs.Seats.{IsStack, cells_of};
 ghost use Rattle.xd_value.specs.Tree.{Tree};
 ghost use Rattle.xd_value.specs.View.{view};
@@ -21,7 +21,7 @@ pub fn loads(alloc: Global, bytes: &[u8]) -> Result<Value, LoadFault>
     // A refusal names the first fault.
     ensures refused { IfErr result (IsRefusal bytes.now) }
     // Bytes with a first fault are refused with it, unless memory runs out.
-    ensures faults { (at : ℕ) → (f : What) → FirstFault bytes.now at f → IsFault at f result }
+    ensures faults { (at : ℕ) → (f : What) → FirstFault bytes.now at f → IsLoadFault at f result }
 {
     run(alloc, bytes)
 }

@@ -13,7 +13,7 @@ use Rattle.xd_report.specs.Breaking.{BrokeAtEnd}
 use Rattle.xd_report.specs.Printing.{ShowsEnd}
 use Rattle.xd_report.proofs.Prints.{shows-end}
 use Rattle.xd_report.proofs.Texts.{lines-more}
-use Rattle.xd_local.specs.Print.{AtStep, FailedAt}
+use Rattle.xd_local.specs.Print.{AtStep, OutputFailedAt}
 use Rattle.xd_local.specs.Running.{HasEnded, RanAll, RanPrinted, LocalScene, ShowsReport}
 
 module _ (tests : List Test) (old : LocalScene) where
@@ -44,7 +44,7 @@ module _ (settings : Settings) (es : List Entry) (old new : Option Sunk) where
       subst (λ (l : List ℕ). PrintedPart l old new) (sym joined) (broken-part _ _ old new s.shows)
 
   -- of the report a first part was taken
-  pub failed_part : (did_all : Type 0) → FailedAt did_all settings es old new → PrintedPart (run_text settings es) old new
+  pub failed_part : (did_all : Type 0) → OutputFailedAt did_all settings es old new → PrintedPart (run_text settings es) old new
   failed_part did_all (inl s) = printed_part_of_more (run_lines settings es) (run_tail settings es) old new (step_part s)
   failed_part did_all (inr t) = by t.shows
     where

@@ -38,8 +38,8 @@ use Rattle.xd_report.proofs.Texts.{over-same}
 use Rattle.xd_local.specs.Local.{faults_of_reports, KeepsLimit, RunsSuite, RunsTests, local_settings, stop_after, stop_at}
 use Rattle.xd_local.specs.Outside.{Programs}
 use Rattle.xd_edge.specs.Clock.{Ticking}
-use Rattle.xd_local.specs.Print.{AtStep, AtEnd, DidAll, FailedAt, PrintsReport, failures_in}
-use Rattle.xd_local.specs.Running.{BelowLimit, ClosedJournal, HasCollected, HasEnded, HasStatus, WasCollected, IsNew, RanPrinted, Running, LocalScene, ShowsReport, FollowsJournal, after_journal, failed_of, ids_of_tests}
+use Rattle.xd_local.specs.Print.{AtStep, AtEndOfTests, DidAll, OutputFailedAt, PrintsReport, failures_in}
+use Rattle.xd_local.specs.Running.{BelowLimit, ClosedJournal, HasCollected, HasEnded, HasStatus, WasCollected, NothingCollected, RanPrinted, Running, LocalScene, ShowsReport, FollowsJournal, after_journal, failed_of, ids_of_tests}
 use Rattle.xd_local.proofs.Alone.{below-at, below-first, eq_same, failures-alone, failures-rounds, faults-alone, is_some-stop, items-alone, length-alone, lists-rounds, low-none, reports-rounds, reports_alone, stop-begun, stop_by, take-alone, unwrap-stop}
 use Rattle.xd_local.proofs.Report.{failed_part}
 
@@ -270,9 +270,9 @@ module _ (tests : List Test) (maxfail : ℕ) (j1 : Journal) (shown : Bool) (old 
   did_all (inl reached) = inr (ap (λ n. reaches j1.settings.maxfail n) failures_are ∙ ap (λ (s : Settings). reaches s.maxfail failures) (settings_are ∙ sym e.settings) ∙ reached)
   did_all (inr all) = inl (omega (arith, all, reports_count, ap length collected_are, length-map tests (λ (t : Test). t.id)))
 
-  failed_at : FailedAt (HasEnded old.run.journal.settings.maxfail tests results) j0.settings j0.entries.items old.sunk new.sunk → FailedAt (DidAll j1) j1.settings j0.entries.items old.sunk new.sunk
+  failed_at : OutputFailedAt (HasEnded old.run.journal.settings.maxfail tests results) j0.settings j0.entries.items old.sunk new.sunk → OutputFailedAt (DidAll j1) j1.settings j0.entries.items old.sunk new.sunk
   failed_at (inl s) = inl (subst (λ (st : Settings). AtStep st j0.entries.items old.sunk new.sunk) (sym e.same_settings) s)
-  failed_at (inr t) = inr (subst (λ (st : Settings). AtEnd (DidAll j1) st j0.entries.items old.sunk new.sunk) (sym e.same_settings) (record { all = did_all t.all; shows = t.shows }))
+  failed_at (inr t) = inr (subst (λ (st : Settings). AtEndOfTests (DidAll j1) st j0.entries.items old.sunk new.sunk) (sym e.same_settings) (record { all = did_all t.all; shows = t.shows }))
 
   -- whichever of the two stops it is, the whole report was printed
   ends_shown : (limit failures : ℕ) → ShowsEnd true (text_of j1) old.sunk new.sunk → PrintsReport (stop_at limit failures) j1 old.sunk new.sunk
@@ -335,7 +335,7 @@ module _ (tests : List Test) (maxfail : ℕ) (j1 : Journal) (shown : Bool) (old 
   }
 
 -- the tests of a new run were collected
-pub begins : (tests : List Test) (maxfail : ℕ) (r0 r1 : Running) → IsNew maxfail r0 → HasCollected tests r0 r1 → WasCollected tests r1
+pub begins : (tests : List Test) (maxfail : ℕ) (r0 r1 : Running) → NothingCollected maxfail r0 → HasCollected tests r0 r1 → WasCollected tests r1
 begins tests maxfail r0 r1 n c = record {
   settings = (let e = c.settings ∙ n.settings in e ∙ ap (λ (s : Settings). local_settings s.maxfail) (sym e));
   entries = c.entries ∙ ap (λ (es : List Entry). es ++ local_entries (ids_of_tests tests) []) n.entries;
@@ -349,7 +349,7 @@ closed_as false r j c told = c.broken refl
 
 -- from the words to the end: what the parts of a run came to
 ended_as : (tests : List Test) (maxfail : ℕ) (r0 r1 r2 : Running) (j : Journal) (out0 out1 : Option Sunk) (shown : Bool) (clock0 clock1 : Ticking)
-    → IsNew maxfail r0 → HasCollected tests r0 r1 → RanPrinted shown tests (record { run = r1; sunk = out0; clock = clock0 }) (record { run = r2; sunk = out1; clock = clock1 }) → ClosedJournal shown r2 j
+    → NothingCollected maxfail r0 → HasCollected tests r0 r1 → RanPrinted shown tests (record { run = r1; sunk = out0; clock = clock0 }) (record { run = r2; sunk = out1; clock = clock1 }) → ClosedJournal shown r2 j
     → Ended tests maxfail j shown (record { run = r1; sunk = out0; clock = clock0 }) (record { run = r2; sunk = out1; clock = clock1 })
 ended_as tests maxfail r0 r1 r2 j out0 out1 shown clock0 clock1 n c ran closed = record {
   ran = ran;
@@ -360,7 +360,7 @@ ended_as tests maxfail r0 r1 r2 j out0 out1 shown clock0 clock1 n c ran closed =
 
 -- the run as a whole
 pub whole_run : (tests : List Test) (maxfail : ℕ) (r0 r1 r2 : Running) (j : Journal) (out0 out1 : Option Sunk) (shown : Bool) (before now : ℕ) (p0 p1 : Programs) (clock0 clock1 : Ticking)
-    → IsNew maxfail r0 → r0.programs ≡ p0 → HasCollected tests r0 r1 → RanPrinted shown tests (record { run = r1; sunk = out0; clock = clock0 }) (record { run = r2; sunk = out1; clock = clock1 }) → Counted shown before now → ClosedJournal shown r2 j → r2.programs ≡ p1
+    → NothingCollected maxfail r0 → r0.programs ≡ p0 → HasCollected tests r0 r1 → RanPrinted shown tests (record { run = r1; sunk = out0; clock = clock0 }) (record { run = r2; sunk = out1; clock = clock1 }) → Counted shown before now → ClosedJournal shown r2 j → r2.programs ≡ p1
     → RunsTests tests maxfail j (record { out = record { sunk = out0; faults = before }; programs = p0; clock = clock0 }) (record { out = record { sunk = out1; faults = now }; programs = p1; clock = clock1 })
 whole_run tests maxfail r0 r1 r2 j out0 out1 shown before now p0 p1 clock0 clock1 n first c ran count closed last =
     let e = ended_as tests maxfail r0 r1 r2 j out0 out1 shown clock0 clock1 n c ran closed in
@@ -370,6 +370,6 @@ whole_run tests maxfail r0 r1 r2 j out0 out1 shown before now p0 p1 clock0 clock
 
 -- the same of its exit status
 pub whole_status : (tests : List Test) (maxfail : ℕ) (r0 r1 r2 : Running) (j : Journal) (out0 out1 : Option Sunk) (shown : Bool) (status : ℕ) (clock0 clock1 : Ticking)
-    → IsNew maxfail r0 → HasCollected tests r0 r1 → RanPrinted shown tests (record { run = r1; sunk = out0; clock = clock0 }) (record { run = r2; sunk = out1; clock = clock1 }) → ClosedJournal shown r2 j → HasStatus shown r2 status → status ≡ status_of j
+    → NothingCollected maxfail r0 → HasCollected tests r0 r1 → RanPrinted shown tests (record { run = r1; sunk = out0; clock = clock0 }) (record { run = r2; sunk = out1; clock = clock1 }) → ClosedJournal shown r2 j → HasStatus shown r2 status → status ≡ status_of j
 whole_status tests maxfail r0 r1 r2 j out0 out1 shown status clock0 clock1 n c ran closed h =
     status_is tests maxfail j shown (record { run = r1; sunk = out0; clock = clock0 }) (record { run = r2; sunk = out1; clock = clock1 }) (ended_as tests maxfail r0 r1 r2 j out0 out1 shown clock0 clock1 n c ran closed) status h

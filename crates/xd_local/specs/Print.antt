@@ -29,13 +29,13 @@ pub record AtStep (settings : Settings) (es : List Entry) (old new : Option Sunk
   pub shows : BrokeAtLines settings before step old new
 
 -- At the end of a run that did all that it had to do.
-pub record AtEnd (did_all : Type 0) (settings : Settings) (es : List Entry) (old new : Option Sunk) : Type 0 where
+pub record AtEndOfTests (did_all : Type 0) (settings : Settings) (es : List Entry) (old new : Option Sunk) : Type 0 where
   pub all : did_all
   pub shows : BrokeAtEnd settings es es old new
 
 -- Where the output failed.
-abbrev pub FailedAt : Type 0 → Settings → List Entry → Option Sunk → Option Sunk → Type 0
-FailedAt did_all settings es old new = AtStep settings es old new ⊎ AtEnd did_all settings es old new
+abbrev pub OutputFailedAt : Type 0 → Settings → List Entry → Option Sunk → Option Sunk → Type 0
+OutputFailedAt did_all settings es old new = AtStep settings es old new ⊎ AtEndOfTests did_all settings es old new
 
 -- how many of these reports are failures
 abbrev pub failures_in : List Report → ℕ
@@ -51,7 +51,7 @@ DidAll j = (length (reports_in j) ≡ length (collected_ids j)) ⊎ (reaches j.s
 pub record BreaksReport (j : Journal) (old new : Option Sunk) : Type 0 where
   pub es : List Entry
   pub entries : j.entries.items ≡ es ++ Over OutFault ∷ []
-  pub failed : FailedAt (DidAll j) j.settings es old new
+  pub failed : OutputFailedAt (DidAll j) j.settings es old new
   pub shows : PrintedPart (text_of j) old new
 
 -- The report of a run that ended so was printed and the output closed, or it broke off where the output failed.

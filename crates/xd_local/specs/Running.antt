@@ -26,7 +26,7 @@ use Rattle.xd_child.specs.Ending.{fault_count}
 use Rattle.xd_child.specs.Running.{RanChild}
 use Rattle.xd_local.specs.Local.{RanTests, kept_by, local_settings, stop_after}
 use Rattle.xd_local.specs.Outside.{Programs}
-use Rattle.xd_local.specs.Print.{AtStep, FailedAt}
+use Rattle.xd_local.specs.Print.{AtStep, OutputFailedAt}
 use Rattle.xd_edge.specs.Clock.{Lasts, Ticking}
 use Rattle.xd_local.specs.Timing.{AreTimed}
 
@@ -60,7 +60,7 @@ abbrev pub ids_of_tests : List Test → List (List ℕ)
 ids_of_tests tests = map (λ t. t.id) tests
 
 -- nothing was collected yet
-pub record IsNew (maxfail : ℕ) (r : Running) : Type 0 where
+pub record NothingCollected (maxfail : ℕ) (r : Running) : Type 0 where
   pub settings : r.journal.settings ≡ local_settings maxfail
   pub entries : r.journal.entries.items ≡ []
   pub unseen : Follows r.reporter (no_one (local_settings maxfail))
@@ -163,7 +163,7 @@ ShowsSteps false j old new = AtStep j.settings j.entries.items old new
 -- the whole report was printed and the output closed, or it failed at the last step, or at the end where all was done
 abbrev pub ShowsReport : Bool → Type 0 → Journal → Option Sunk → Option Sunk → Type 0
 ShowsReport true did_all j old new = ShowsEnd true (text_of j) old new
-ShowsReport false did_all j old new = FailedAt did_all j.settings j.entries.items old new
+ShowsReport false did_all j old new = OutputFailedAt did_all j.settings j.entries.items old new
 
 -- the run came to its end and its lines were printed, or the output failed at the collection or after a test
 pub record RanAll (shown : Bool) (tests : List Test) (old new : LocalScene) : Type 0 where

@@ -11,7 +11,7 @@ ghost use Rattle.xd_report.specs.Lines.{lines_from};
 ghost use Rattle.xd_report.specs.Printing.{OnPrinted, ShowsEnd, ShowsLines};
 ghost use Rattle.xd_report.specs.Text.{tail_text};
 ghost use Rattle.xd_local.specs.Local.{local_settings, stop_after};
-ghost use Rattle.xd_local.specs.Running.{AddsRound, ClosedJournal, HasCollected, HasStatus, WasCollected, IsNew, NotesTest};
+ghost use Rattle.xd_local.specs.Running.{AddsRound, ClosedJournal, HasCollected, HasStatus, WasCollected, NothingCollected, NotesTest};
 ghost use Rattle.xd_local.specs.Running.{RanAll, RanPrinted, RanTest, FollowsJournal, after_journal, local_scene};
 
 use crate::local::LocalRun;
@@ -52,7 +52,7 @@ impl<K: Children> Model for Run<K> {
 impl<K: Children> Run<K> {
     // Nothing was collected yet.
     pub fn new(alloc: Global, maxfail: u32, children: K) -> Run<K>
-        ensures new { IsNew maxfail result }
+        ensures new { NothingCollected maxfail result }
         ensures programs { result.programs ≡
             record { runs = K.runs children; faults = K.faults children } }
     {

@@ -1,7 +1,7 @@
 // Programs in memory.
 ghost use Rattle.std.specs.Prelude.{◌≡◌, ◌<◌, ◌≤◌, ◌++◌, [], ◌∷◌, Some, ℕ, List, length, take, IsTrue, slice_get, IfOk, OnOk, OnErr, IsErrOf, IsNone, IsSome, IfSome, true, is_ok, is_some};
 ghost use Rattle.xd_edge.specs.Faults.{Counted};
-ghost use Rattle.xd_edge.specs.Children.{whole_output, has_not_failed, change_at, fate_at_end, with_fate, with_last, with_output, running, not_started, with_read_fault, with_end, with_wait_fault};
+ghost use Rattle.xd_edge.specs.Children.{whole_output, start_not_failed, change_at, fate_at_end, with_fate, with_last, with_output, running, not_started, with_read_fault, with_end, with_wait_fault};
 ghost use Rattle.xd_memory.specs.MemChildren.{Prepared, Starts, all_told, child_in, child_end_at, given_of, has_to_give, is_prepared, piece_at, texts_eq};
 
 use crate::MemRun;
@@ -223,7 +223,7 @@ impl Children for MemChildren {
         ensures kept { (self.new.children ≡ self.old.children)
             × (self.new.plan.fails ≡ self.old.plan.fails) }
         ensures counted { Counted
-            (has_not_failed result) self.old.plan.faults self.new.plan.faults }
+            (start_not_failed result) self.old.plan.faults self.new.plan.faults }
         ensures calm { self.old.plan.fails ≡ [] →
             IsSome (child_in self.old.children.items args.now) →
             self.new.plan.faults ≡ self.old.plan.faults }

@@ -1,7 +1,7 @@
 // Files in memory.
 ghost use Rattle.std.specs.Prelude.{◌≡◌, ◌≤◌, [], Some, length, IfOk, IsErrOf, IsSome, option_copied};
 ghost use Rattle.xd_edge.specs.Faults.{Counted};
-ghost use Rattle.xd_edge.specs.Files.{has_not_failed, HasFile, HasLarger, file_in};
+ghost use Rattle.xd_edge.specs.Files.{read_not_failed, HasFile, HasLarger, file_in};
 
 use std::alloc::Global;
 use xd_edge::{Blob, FaultPlan, FileFault, Files, Indices, Text};
@@ -51,7 +51,7 @@ impl Files for MemFiles {
         ensures kept { self.new.files ≡ self.old.files }
         ensures fails { self.new.plan.fails ≡ self.old.plan.fails }
         ensures counted { Counted
-            (has_not_failed result) self.old.plan.faults self.new.plan.faults }
+            (read_not_failed result) self.old.plan.faults self.new.plan.faults }
         ensures calm { self.old.plan.fails ≡ [] → IsSome (file_in self.old.files.items path.now) →
             self.new.plan.faults ≡ self.old.plan.faults }
     {

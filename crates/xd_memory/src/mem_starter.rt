@@ -2,7 +2,7 @@
 ghost use Rattle.std.specs.Prelude.{◌≡◌, ◌≢◌, ◌<◌, ◌^◌, [], Some, All, length, vec_len, IfOk, OnOk, IsErrOf, is_ok, ◌∷◌, ◌≤◌, OnErr, IsErr};
 ghost use Rattle.xd_edge.specs.Faults.{Counted};
 ghost use Rattle.xd_memory.specs.FreshPair.{IsFresh};
-ghost use Rattle.xd_link.specs.Starter.{has_not_failed, link_changed, as_killed, as_reaped, more_often, with_start, with_failure, with_link};
+ghost use Rattle.xd_link.specs.Starter.{link_not_failed, link_changed, as_killed, as_reaped, more_often, with_start, with_failure, with_link};
 
 use crate::{MemSink, MemSource};
 use std::alloc::Global;
@@ -127,7 +127,7 @@ impl Starter for MemStarter {
         ensures last { 2 ^ 32 ≤ vec_len self.old.begun → IsErr result }
         ensures fails { self.new.plan.fails ≡ self.old.plan.fails }
         ensures counted { Counted
-            (has_not_failed result) self.old.plan.faults self.new.plan.faults }
+            (link_not_failed result) self.old.plan.faults self.new.plan.faults }
         ensures calm { self.old.plan.fails ≡ [] → self.old.links.items ≢ [] →
             vec_len self.old.begun < 2 ^ 32 → self.new.plan.faults ≡ self.old.plan.faults }
     {

@@ -14,7 +14,7 @@ use Rattle.xd_factory.proofs.Entries.{here_entries}
 use Rattle.xd_pair.specs.Part.{is_end_but_loss, is_lost}
 use Rattle.xd_pair.specs.Pair.{Actor, Finish_receiving, after}
 use Rattle.xd_pair.specs.Handed.{Hands, owed_end}
-use Rattle.xd_pair.specs.Stands.{StandsFor}
+use Rattle.xd_pair.specs.Stands.{StandsForActor}
 
 first_of : Option End → Option End → Option End
 first_of None more = more
@@ -54,7 +54,7 @@ none_lost (Here x) false h = absurd (let z = h in cc)
 pub owed_is : (s : Side) (c : ℕ) → owed_end (owed_of (slot_of_number s) (numbers_of s)) c ≡ lost_gives (slot_of_number s c)
 owed_is s c = owed_all (slot_of_number s) (numbers_of s) c ∙ none_lost (slot_of_number s c) (is_in c (numbers_of s)) (here_entries s.ends.entries c (is_known s.parity s.next s.seen c))
 
-pub finish_hands : (odd : Bool) (s : Side) (a : Actor) (wire : List Said) (ends : List (ℕ × End)) → ends ≡ owed_of (slot_of_number s) (numbers_of s) → StandsFor odd s a → Hands a (after odd a wire Finish_receiving) (λ c. []) (owed_end ends)
+pub finish_hands : (odd : Bool) (s : Side) (a : Actor) (wire : List Said) (ends : List (ℕ × End)) → ends ≡ owed_of (slot_of_number s) (numbers_of s) → StandsForActor odd s a → Hands a (after odd a wire Finish_receiving) (λ c. []) (owed_end ends)
 finish_hands odd s a wire ends e k = record {
   got = λ c. refl;
   ended = λ c. ap (λ (x : Option End). is_end_but_loss x || (a.part c).ended) (here c);

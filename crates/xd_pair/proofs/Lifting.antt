@@ -11,7 +11,7 @@ use Rattle.xd_pair.specs.Part.{opened_in}
 use Rattle.xd_pair.specs.Pair.{Actor, World, Move, Open_channel, Send, Call, Ask, Answer, Terminate, Close, End_function, Give_up, Receive, Set_callback, Take_message, Refuse, Finish_receiving, part_changed, adds, can_send, can_answer, can_open, takes, says, after, wire_after, Step, Odd, Even, happens, run, start}
 use Rattle.xd_pair.specs.Messages.{AllMean, AddsMessages}
 use Rattle.xd_pair.specs.Handed.{Hands}
-use Rattle.xd_pair.specs.Stands.{StandsFor, IsOpen, IsMoveIf, HandsOut, Carries, IsTake, RefusesNext}
+use Rattle.xd_pair.specs.Stands.{StandsForActor, IsOpen, IsMoveIf, HandsOut, Carries, IsTake, RefusesNext}
 use Rattle.xd_pair.specs.TwoSides.{StandFor, PairStands}
 use Rattle.xd_pair.specs.declared.linked.LinkedSide.{LinkedSide}
 use Rattle.xd_pair.proofs.Says.{if_actor}
@@ -97,7 +97,7 @@ odd_takes odd new even rest steps items end t h =
     let k = t.takes true (run steps start).odd (run steps start).to_odd h.odd_stands h.to_odd in (
       subst (StandFor new rest) (sym (run-append steps (Odd Take_message) start)) (record {
         odd_stands = k.stands;
-        even_stands = subst (λ (s : Side). StandsFor false s (run steps start).even) (sym t.quiet.peer_side) h.even_stands;
+        even_stands = subst (λ (s : Side). StandsForActor false s (run steps start).even) (sym t.quiet.peer_side) h.even_stands;
         to_odd = k.carries;
         to_even = same_carried (run steps start).even odd new (run steps start).to_even t.quiet.said h.to_even;
       }),
@@ -109,7 +109,7 @@ pub even_takes : (odd even new rest : LinkedSide) (steps : List Step) (items : �
 even_takes odd even new rest steps items end t h =
     let k = t.takes false (run steps start).even (run steps start).to_even h.even_stands h.to_even in (
       subst (StandFor rest new) (sym (run-append steps (Even Take_message) start)) (record {
-        odd_stands = subst (λ (s : Side). StandsFor true s (run steps start).odd) (sym t.quiet.peer_side) h.odd_stands;
+        odd_stands = subst (λ (s : Side). StandsForActor true s (run steps start).odd) (sym t.quiet.peer_side) h.odd_stands;
         even_stands = k.stands;
         to_odd = same_carried (run steps start).odd even new (run steps start).to_odd t.quiet.said h.to_odd;
         to_even = k.carries;
@@ -123,7 +123,7 @@ odd_refuses odd new even rest steps t h =
       k.names,
       subst (StandFor new rest) (sym (run-append steps (Odd (Refuse k.names)) start)) (record {
         odd_stands = k.stands;
-        even_stands = subst (λ (s : Side). StandsFor false s (run steps start).even) (sym t.quiet.peer_side) h.even_stands;
+        even_stands = subst (λ (s : Side). StandsForActor false s (run steps start).even) (sym t.quiet.peer_side) h.even_stands;
         to_odd = λ o. absurd (let z = o in cc);
         to_even = same_carried (run steps start).even odd new (run steps start).to_even t.quiet.said h.to_even;
       }),
@@ -134,7 +134,7 @@ even_refuses odd even new rest steps t h =
     let k = t.refuses false (run steps start).even (run steps start).to_even h.even_stands h.to_even in (
       k.names,
       subst (StandFor rest new) (sym (run-append steps (Even (Refuse k.names)) start)) (record {
-        odd_stands = subst (λ (s : Side). StandsFor true s (run steps start).odd) (sym t.quiet.peer_side) h.odd_stands;
+        odd_stands = subst (λ (s : Side). StandsForActor true s (run steps start).odd) (sym t.quiet.peer_side) h.odd_stands;
         even_stands = k.stands;
         to_odd = same_carried (run steps start).odd even new (run steps start).to_odd t.quiet.said h.to_odd;
         to_even = λ o. absurd (let z = o in cc);

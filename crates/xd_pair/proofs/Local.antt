@@ -4,7 +4,7 @@ use Rattle.std.specs.Prelude.{is_some, ◌||◌, not, if◌then◌else◌}
 use Rattle.std.proofs.lemmas.List.{append-nil}
 use Rattle.xd_channel.specs.declared.end.End.{End}
 use Rattle.xd_channel.specs.declared.end.End.TheVariants.{Closed, LastMessage, Error, Lost}
-use Rattle.xd_channel.specs.State.{EndState, fresh, arrive_gives, after_arrive, put_gives, after_put, after_peer_close, end_of, once_given, after_close, after_give_up, after_hook, after_receive, is_done}
+use Rattle.xd_channel.specs.State.{EndState, fresh_end, arrive_gives, after_arrive, put_gives, after_put, after_peer_close, end_of, once_given, after_close, after_give_up, after_hook, after_receive, is_done}
 use Rattle.xd_channel.specs.History.{handed}
 use Rattle.xd_value.specs.Tree.{Tree}
 use Rattle.xd_factory.specs.Slot.{Slot, Unseen, Here, Gone, gone_where_done, receive_answer, named_slot}
@@ -307,7 +307,7 @@ heard_in-ok true n p Unseen Named h q k = absurd (let z = q refl in cc)
 heard_in-ok true n p Unseen (Item v) h q k = absurd (let z = q refl in cc)
 heard_in-ok true n p Unseen (Ends e) h q k = absurd (let z = q refl in cc)
 heard_in-ok true n p Unseen Lasts h q k = absurd (let z = q refl in cc)
-heard_in-ok false n p Unseen Named h q k = let z = name_quiet n in same_notes false n (n ++ Named ∷ []) (Here fresh) p.got p.ended p.let_go p.lost z.0 z.1 (opens false n p.got p.ended p.let_go p.lost (at_slot false n p Unseen h k))
+heard_in-ok false n p Unseen Named h q k = let z = name_quiet n in same_notes false n (n ++ Named ∷ []) (Here fresh_end) p.got p.ended p.let_go p.lost z.0 z.1 (opens false n p.got p.ended p.let_go p.lost (at_slot false n p Unseen h k))
 heard_in-ok false n p Unseen (Item v) h q k = item_comes n [] None true false false p.got p.ended p.let_go p.lost v (opens false n p.got p.ended p.let_go p.lost (at_slot false n p Unseen h k))
 heard_in-ok false n p Unseen (Ends e) h q k = gone_more false (n ++ Ends e ∷ []) p.got p.let_go p.lost (unseen_end n p.got p.ended p.let_go p.lost (Ends e) refl refl (at_slot false n p Unseen h k))
 heard_in-ok false n p Unseen Lasts h q k = gone_more false (n ++ Lasts ∷ []) p.got p.let_go p.lost (unseen_end n p.got p.ended p.let_go p.lost Lasts refl refl (at_slot false n p Unseen h k))

@@ -16,7 +16,7 @@ use Rattle.xd_factory.specs.Table.{is_long, HasErrorPayload, close_refusal, clos
 use Rattle.xd_factory.specs.View.{slot_of_number, KeepsRest}
 use Rattle.xd_factory.specs.declared.side.Side.{Side}
 use Rattle.xd_pair.specs.Part as part
-use Rattle.xd_pair.specs.Pair.{Actor, Send, Call, Answer, Close, End_function, Give_up, knows, can_send, can_call, can_answer}
+use Rattle.xd_pair.specs.Pair.{Actor, Send, Call, Answer, Close, End_function, Give_up, knows_numbers, can_send, can_call, can_answer}
 use Rattle.xd_pair.specs.Messages.{AllMean, AddsMessages}
 use Rattle.xd_pair.specs.Stands.{IsMove, IsMoveIf, Stays}
 use Rattle.xd_pair.specs.declared.linked.LinkedSide.{LinkedSide}
@@ -83,14 +83,14 @@ both false y h k = h
 
 pub send_moves : (old new : LinkedSide) (n : ℕ) (v : Tree) (b : List ℕ) (m : MessageView) → IsPayload v b → sent_gives (send_refusal (slot_of_number old.side n)) (dumped v) ≡ Ok b
     → m ≡ record { kind = kind.Item; channel = n; payload = b } → new.side ≡ old.side → new.said.items ≡ old.said.items ++ m ∷ []
-    → IsMoveIf (λ a. knows a.part (channels v)) old new (Send n v)
+    → IsMoveIf (λ a. knows_numbers a.part (channels v)) old new (Send n v)
 send_moves old new n v b m p sent is side more odd a wire num known k =
     let parts = sent_parts (slot_of_number old.side n) v b sent in
     let may : part.may_send (a.part n).slot ≡ true = ap part.may_send (sym (k.slots n)) ∙ parts.0 in
     let n_is : n == 0 ≡ false = differ a.part n 0 num.unseen (may_seen (a.part n).slot may) in
     record {
       stands = adds_stands odd new.side a (can_send a n v) n v (same_stands odd old.side new.side a side k);
-      says = if_adds old.said.items new.said.items (can_send a n v) (Data n v ∷ []) (both (part.may_send (a.part n).slot) (knows a.part (channels v)) may known)
+      says = if_adds old.said.items new.said.items (can_send a n v) (Data n v ∷ []) (both (part.may_send (a.part n).slot) (knows_numbers a.part (channels v)) may known)
           (record { more = m ∷ []; following = more; mean = (subst (λ (x : MessageView). Means x (Data n v)) (sym is) (item_said n v b n_is p parts.1), tt) });
       way = refl;
     }
@@ -98,7 +98,7 @@ send_moves old new n v b m p sent is side more odd a wire num known k =
 pub call_moves : (old new : LinkedSide) (n : ℕ) (v : Tree) (b : List ℕ) (m : MessageView) → IsPayload v b → dumped v ≡ Ok b → m ≡ record { kind = kind.Exec; channel = n; payload = b }
     → new.side ≡ old.side → new.said.items ≡ old.said.items ++ m ∷ [] → IsMoveIf (λ a. can_call a n v) old new (Call n v)
 call_moves old new n v b m p d is side more odd a wire num can k =
-    let parts = and_parts (is_here (a.part n).slot) (knows a.part (channels v)) can in
+    let parts = and_parts (is_here (a.part n).slot) (knows_numbers a.part (channels v)) can in
     let n_is : n == 0 ≡ false = differ a.part n 0 num.unseen (here_seen (a.part n).slot parts.0) in
     record {
       stands = same_stands odd old.side new.side a side k;
@@ -114,7 +114,7 @@ pub answer_moves : (old new : LinkedSide) (n : ℕ) (v : Tree) (b none : List �
     → m ≡ record { kind = kind.Item; channel = n; payload = b } → end ≡ record { kind = kind.Close; channel = n; payload = none }
     → new.side ≡ old.side → new.said.items ≡ old.said.items ++ m ∷ [] ++ end ∷ [] → IsMoveIf (λ a. can_answer a n v) old new (Answer n v)
 answer_moves old new n v b none m end p d empty is end_is side more odd a wire num can k =
-    let parts = and_parts (a.part n).asked (knows a.part (channels v)) can in
+    let parts = and_parts (a.part n).asked (knows_numbers a.part (channels v)) can in
     let n_is : n == 0 ≡ false = unasked a.part n 0 num.unasked parts.0 in
     let closes : end ≡ record { kind = kind.Close; channel = n; payload = [] } = end_is ∙ ap (λ (x : List ℕ). closing n x) empty in
     record {

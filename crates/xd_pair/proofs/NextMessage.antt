@@ -12,7 +12,7 @@ use Rattle.xd_factory.specs.declared.faults.SideFault.{SideFault}
 use Rattle.xd_pair.specs.Pair.{Actor, Take_message, takes, messages_left, after, wire_after}
 use Rattle.xd_pair.specs.Handed.{Hands, taken_items, taken_end}
 use Rattle.xd_pair.specs.Messages.{AllMean}
-use Rattle.xd_pair.specs.Stands.{StandsFor, IsOpen, IsTake, RefusesNext}
+use Rattle.xd_pair.specs.Stands.{StandsForActor, IsOpen, IsTake, RefusesNext}
 use Rattle.xd_pair.specs.declared.linked.LinkedSide.{LinkedSide}
 use Rattle.xd_pair.proofs.Standing.{same_stands}
 use Rattle.xd_pair.proofs.Taking.{open_actor, took, none_hands, refused}
@@ -53,7 +53,7 @@ takes_none old new peer left items none side said same = record {
   takes = λ odd a wire k carries.
       let means : IsOpen a → AllMean [] wire = λ o. subst (λ (ms : List MessageView). AllMean ms wire) items (carries o) in
       record {
-        stands = subst (λ (b : Actor). StandsFor odd new.side b) (sym (none_after odd a wire means)) (same_stands odd old.side new.side a same k);
+        stands = subst (λ (b : Actor). StandsForActor odd new.side b) (sym (none_after odd a wire means)) (same_stands odd old.side new.side a same k);
         carries = λ o. subst (λ (ms : List MessageView). AllMean ms (wire_after a wire Take_message)) (sym none) (none_rest (a.failed || a.finished) wire (means (subst (λ (b : Actor). IsOpen b) (none_after odd a wire means) o)));
         hands = subst (λ (b : Actor). Hands a b (λ c. []) (λ c. None)) (sym (none_after odd a wire means)) (none_hands a);
       };

@@ -19,7 +19,7 @@ use Rattle.xd_factory.specs.Said as message
 use Rattle.xd_pair.specs.Notes.{Note, Named, Item, Ends, Lasts, Asked, named_notes, notes, all_notes, items}
 use Rattle.xd_pair.specs.Part.{Part, heard, heard_all, opened_in, received_in, hooked_in, closed_in, function_ended_in, given_up_in, closing_words, close_words, function_end_words, giving_words, give_up_words, may_send}
 use Rattle.xd_factory.specs.Slot.{is_seen, is_here}
-use Rattle.xd_pair.specs.Pair.{Actor, Move, Open_channel, Send, Call, Ask, Answer, Terminate, Close, End_function, Give_up, Receive, Set_callback, Take_message, Refuse, Finish_receiving, is_told, has_notes, named_part, knows, part_changed, adds, can_send, can_call, can_answer, can_open, takes, says, after}
+use Rattle.xd_pair.specs.Pair.{Actor, Move, Open_channel, Send, Call, Ask, Answer, Terminate, Close, End_function, Give_up, Receive, Set_callback, Take_message, Refuse, Finish_receiving, is_told, has_notes, named_part, knows_numbers, part_changed, adds, can_send, can_call, can_answer, can_open, takes, says, after}
 use Rattle.xd_pair.proofs.NotesLemmas.{open_or_ended}
 use Rattle.xd_pair.proofs.Local.{settled_seen, seen_in}
 
@@ -30,9 +30,9 @@ differ part n c u k = open_or_ended (n == c) ((n == c) ≡ false) (λ h. let e =
 pub unasked : (part : ℕ → Part) (n c : ℕ) → (part c).asked ≡ false → (part n).asked ≡ true → (n == c) ≡ false
 unasked part n c u k = open_or_ended (n == c) ((n == c) ≡ false) (λ h. let e = ap (λ (x : ℕ). (part x).asked) (eqb-true n c h) in cc) (λ h. h)
 
-unnamed : (part : ℕ → Part) (c : ℕ) (cs : List ℕ) → is_seen (part c).slot ≡ false → knows part cs ≡ true → is_in c cs ≡ false
+unnamed : (part : ℕ → Part) (c : ℕ) (cs : List ℕ) → is_seen (part c).slot ≡ false → knows_numbers part cs ≡ true → is_in c cs ≡ false
 unnamed part c [] u k = refl
-unnamed part c (n ∷ cs) u k = let h = and_parts (is_seen (part n).slot) (knows part cs) k in
+unnamed part c (n ∷ cs) u k = let h = and_parts (is_seen (part n).slot) (knows_numbers part cs) k in
     ap (λ b. b || is_in c cs) (differ part n c u h.0) ∙ unnamed part c cs u h.1
 
 pub may_seen : (s : Slot Tree) → may_send s ≡ true → is_seen s ≡ true
@@ -79,12 +79,12 @@ same_slot part n c u q = ap (λ (x : ℕ). is_seen (part x).slot) (eqb-true n c 
 -- a side says nothing about a number that it never saw and was not asked for
 pub quiet_says : (odd : Bool) (a : Actor) (m : Move) (c : ℕ) → is_seen (a.part c).slot ≡ false → (a.part c).asked ≡ false → all_notes c (says odd a m) ≡ []
 quiet_says odd a Open_channel c u w = refl
-quiet_says odd a (Send n v) c u w = if_says c (can_send a n v) (Data n v ∷ []) (λ q. let h = and_parts (may_send (a.part n).slot) (knows a.part (channels v)) q in
+quiet_says odd a (Send n v) c u w = if_says c (can_send a n v) (Data n v ∷ []) (λ q. let h = and_parts (may_send (a.part n).slot) (knows_numbers a.part (channels v)) q in
     rw (unnamed a.part c (channels v) u h.1, differ a.part n c u (may_seen (a.part n).slot h.0)) refl)
-quiet_says odd a (Call n v) c u w = if_says c (can_call a n v) (Exec n v ∷ []) (λ q. let h = and_parts (is_here (a.part n).slot) (knows a.part (channels v)) q in
+quiet_says odd a (Call n v) c u w = if_says c (can_call a n v) (Exec n v ∷ []) (λ q. let h = and_parts (is_here (a.part n).slot) (knows_numbers a.part (channels v)) q in
     rw (unnamed a.part c (channels v) u h.1, differ a.part n c u (here_seen (a.part n).slot h.0)) refl)
 quiet_says odd a (Ask n) c u w = if_says c (is_here (a.part n).slot) (Status n ∷ []) (λ q. rw (differ a.part n c u (here_seen (a.part n).slot q)) refl)
-quiet_says odd a (Answer n v) c u w = if_says c (can_answer a n v) (Data n v ∷ message.Close n None ∷ []) (λ q. let h = and_parts (a.part n).asked (knows a.part (channels v)) q in
+quiet_says odd a (Answer n v) c u w = if_says c (can_answer a n v) (Data n v ∷ message.Close n None ∷ []) (λ q. let h = and_parts (a.part n).asked (knows_numbers a.part (channels v)) q in
     rw (unnamed a.part c (channels v) u h.1, unasked a.part n c w h.0) refl)
 quiet_says odd a Terminate c u w = refl
 quiet_says odd a (Close n e) c u w = close_quiet n c e (a.part n).slot (same_slot a.part n c u)

@@ -27,7 +27,7 @@ use Rattle.xd_pair.specs.Part.{Part, heard_all, is_end_but_loss, is_lost}
 use Rattle.xd_pair.specs.Pair.{Actor, Take_message, Refuse, takes, messages_left, has_notes, is_told, named_part, after, wire_after}
 use Rattle.xd_pair.specs.Handed.{Hands, taken_items, taken_end}
 use Rattle.xd_pair.specs.Messages.{AllMean}
-use Rattle.xd_pair.specs.Stands.{StandsFor, IsOpen}
+use Rattle.xd_pair.specs.Stands.{StandsForActor, IsOpen}
 use Rattle.xd_pair.proofs.SameWords.{message_heard, named_own, twice}
 
 -- what the notes of one message hand out at a number
@@ -157,25 +157,25 @@ answer_same parity f g (Last n) h = ap (λ (s : Slot Tree). end_answer n s LastM
 answer_same parity f g Terminate h = refl
 
 -- a side that takes messages stands for an actor that does
-pub open_actor : (odd : Bool) (s : Side) (a : Actor) → StandsFor odd s a → fault_of s ≡ None → IsOpen a
+pub open_actor : (odd : Bool) (s : Side) (a : Actor) → StandsForActor odd s a → fault_of s ≡ None → IsOpen a
 open_actor odd s a k f = sym k.refuses ∙ ap is_some f
 
 -- a message is taken
 pub record Took (odd : Bool) (t : Side) (a : Actor) (wire : List Said) (ms : List MessageView) (answer : Taken Tree) : Type 0 where
-  pub stands : StandsFor odd t (after odd a wire Take_message)
+  pub stands : StandsForActor odd t (after odd a wire Take_message)
   pub carries : AllMean ms (wire_after a wire Take_message)
   pub hands : Hands a (after odd a wire Take_message) (taken_items answer) (taken_end answer)
 
 pub took : (odd : Bool) (s t : Side) (a : Actor) (wire : List Said) (m : MessageView) (ms : List MessageView) (answer : Taken Tree)
     → fault_of s ≡ None → KeepsRest s t → ((said : Said) → Means m said → answer ≡ answer_of (parity_of s) (slot_of_number s) said)
     → ((said : Said) → Means m said → (c : ℕ) → slot_of_number t c ≡ heard_slot (parity_of s) said c (slot_of_number s c))
-    → StandsFor odd s a → AllMean (m ∷ ms) wire → Took odd t a wire ms answer
+    → StandsForActor odd s a → AllMean (m ∷ ms) wire → Took odd t a wire ms answer
 took odd s t a [] m ms answer f keeps answers slots k means = absurd means
 took odd s t a (w ∷ ws) m ms answer f keeps answers slots k means =
     let is_open : a.failed || a.finished ≡ false = open_actor odd s a k f in
     let same : answer ≡ answer_of (side_parity odd) (λ n. (a.part n).slot) w = answers w means.0 ∙ answer_same (parity_of s) (slot_of_number s) (λ n. (a.part n).slot) w k.slots ∙ ap (λ (p : Parity). answer_of p (λ n. (a.part n).slot) w) k.parity in
     record {
-      stands = subst (λ b. StandsFor odd t (if b then a else takes odd a (w ∷ ws))) (sym is_open) (record {
+      stands = subst (λ b. StandsForActor odd t (if b then a else takes odd a (w ∷ ws))) (sym is_open) (record {
         parity = keeps.parity ∙ k.parity;
         slots = λ c. slots w means.0 c ∙ ap (λ (p : Parity). heard_slot p w c (slot_of_number s c)) k.parity ∙ ap (heard_slot (side_parity odd) w c) (k.slots c) ∙ sym (message_heard odd (a.part c) c w);
         next = keeps.next ∙ k.next;
@@ -247,10 +247,10 @@ pub refused : (odd : Bool) (s t : Side) (a : Actor) (wire : List Said) (m : Mess
     → parity_of t ≡ parity_of s → next_of t ≡ next_of s → is_finished t ≡ is_finished s
     → ((c : ℕ) → OpensAtMost (is_mine (parity_of s) c) (slot_of_number s c) (slot_of_number t c))
     → ((said : Said) → Means m said → (c : ℕ) → is_in c (names_of said) ≡ false → slot_of_number t c ≡ slot_of_number s c)
-    → StandsFor odd s a → (IsOpen a → AllMean (m ∷ ms) wire) → (names : List ℕ) × StandsFor odd t (after odd a wire (Refuse names))
+    → StandsForActor odd s a → (IsOpen a → AllMean (m ∷ ms) wire) → (names : List ℕ) × StandsForActor odd t (after odd a wire (Refuse names))
 refused odd s t a wire m ms failed fails p n d err others k means = by_fault (fault_of s) refl
   where
-    first_words : (wire : List Said) → AllMean (m ∷ ms) wire → (names : List ℕ) × StandsFor odd t (after odd a wire (Refuse names))
+    first_words : (wire : List Said) → AllMean (m ∷ ms) wire → (names : List ℕ) × StandsForActor odd t (after odd a wire (Refuse names))
     first_words [] h = absurd h
     first_words (w ∷ ws) h = (
       kept (λ c. has_opened (err c)) (names_of w),
@@ -265,7 +265,7 @@ refused odd s t a wire m ms failed fails p n d err others k means = by_fault (fa
       },
     )
 
-    by_fault : (o : Option SideFault) → fault_of s ≡ o → (names : List ℕ) × StandsFor odd t (after odd a wire (Refuse names))
+    by_fault : (o : Option SideFault) → fault_of s ≡ o → (names : List ℕ) × StandsForActor odd t (after odd a wire (Refuse names))
     by_fault None h = first_words wire (means (open_actor odd s a k h))
     by_fault (Some f) h = (
       [],

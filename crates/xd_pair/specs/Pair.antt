@@ -46,9 +46,9 @@ pub data Move : Type 0 where
   Finish_receiving : Move  -- the link is lost
 
 -- each number in the value was opened or seen here
-abbrev pub knows : (ℕ → Part) → List ℕ → Bool
-knows part [] = true
-knows part (c ∷ cs) = is_seen (part c).slot && knows part cs
+abbrev pub knows_numbers : (ℕ → Part) → List ℕ → Bool
+knows_numbers part [] = true
+knows_numbers part (c ∷ cs) = is_seen (part c).slot && knows_numbers part cs
 
 -- a change at one number
 abbrev pub part_changed : ℕ → (Part → Part) → Actor → Actor
@@ -60,15 +60,15 @@ adds n v a = record a { sent = λ c. if n == c then a.sent c ++ v ∷ [] else a.
 
 -- the item is accepted
 abbrev pub can_send : Actor → ℕ → Tree → Bool
-can_send a n v = may_send (a.part n).slot && knows a.part (channels v)
+can_send a n v = may_send (a.part n).slot && knows_numbers a.part (channels v)
 
 -- a function may be called on an open number, with a value of known numbers
 abbrev pub can_call : Actor → ℕ → Tree → Bool
-can_call a n v = is_here (a.part n).slot && knows a.part (channels v)
+can_call a n v = is_here (a.part n).slot && knows_numbers a.part (channels v)
 
 -- the answer to a STATUS stands only where that STATUS was taken
 abbrev pub can_answer : Actor → ℕ → Tree → Bool
-can_answer a n v = (a.part n).asked && knows a.part (channels v)
+can_answer a n v = (a.part n).asked && knows_numbers a.part (channels v)
 
 -- no channel opens once the link has ended
 abbrev pub can_open : Bool → Actor → Bool

@@ -13,14 +13,14 @@ use Rattle.xd_factory.specs.declared.faults.SideFault.{SideFault}
 use Rattle.xd_factory.specs.declared.side.Side.{Side}
 use Rattle.xd_factory.specs.declared.taken.Taken.{Taken}
 use Rattle.xd_pair.specs.Notes.{owns, side_parity}
-use Rattle.xd_pair.specs.Pair.{Actor, Move, Take_message, Refuse, knows, says, after, wire_after}
+use Rattle.xd_pair.specs.Pair.{Actor, Move, Take_message, Refuse, knows_numbers, says, after, wire_after}
 use Rattle.xd_pair.specs.Messages.{AllMean, AddsMessages}
 use Rattle.xd_pair.specs.Handed.{Hands}
 use Rattle.xd_pair.specs.declared.linked.LinkedSide.{LinkedSide}
 
 -- the side has at each number what the actor has there, opens the same number next, and takes messages where the actor
 -- does
-pub record StandsFor (odd : Bool) (s : Side) (a : Actor) : Type 0 where
+pub record StandsForActor (odd : Bool) (s : Side) (a : Actor) : Type 0 where
   pub parity : parity_of s ≡ side_parity odd
   pub slots : (c : ℕ) → slot_of_number s c ≡ (a.part c).slot
   pub next : next_of s ≡ a.next
@@ -39,14 +39,14 @@ pub record IsNumbered (odd : Bool) (a : Actor) : Type 0 where
 
 -- from old to new the side makes the move of the actor, and says what the move says
 pub record Makes (odd : Bool) (old new : LinkedSide) (a : Actor) (wire : List Said) (move : Move) : Type 0 where
-  pub stands : StandsFor odd new.side (after odd a wire move)
+  pub stands : StandsForActor odd new.side (after odd a wire move)
   pub says : AddsMessages old.said.items new.said.items (says odd a move)
   pub way : wire_after a wire move ≡ wire
 
 -- so it does for each actor that the side stands for and that passes the test
 abbrev pub IsMoveIf : (Actor → Bool) → LinkedSide → LinkedSide → Move → Type 0
 IsMoveIf test old new move =
-    (odd : Bool) (a : Actor) (wire : List Said) → IsNumbered odd a → test a ≡ true → StandsFor odd old.side a → Makes odd old new a wire move
+    (odd : Bool) (a : Actor) (wire : List Said) → IsNumbered odd a → test a ≡ true → StandsForActor odd old.side a → Makes odd old new a wire move
 
 -- from old to new the side makes the move of each actor that it stands for
 -- Example: a side with an open channel 1 sends 7 on it: after the call a message on the way means an item 7 on 1.
@@ -55,7 +55,7 @@ IsMove old new move = IsMoveIf (λ a. true) old new move
 
 -- the actor opened or saw each number that the value names
 abbrev pub names_known : Tree → Actor → Bool
-names_known v a = knows a.part (channels v)
+names_known v a = knows_numbers a.part (channels v)
 
 -- nothing changed that contracts see
 pub record Stays (old new : LinkedSide) : Type 0 where
@@ -65,7 +65,7 @@ pub record Stays (old new : LinkedSide) : Type 0 where
 
 -- the move hands out these items and ends, whichever actor the side stands for
 abbrev pub HandsOut : LinkedSide → Move → (ℕ → List Tree) → (ℕ → Option End) → Type 0
-HandsOut old move items end = (odd : Bool) (a : Actor) (wire : List Said) → StandsFor odd old.side a → Hands a (after odd a wire move) items end
+HandsOut old move items end = (odd : Bool) (a : Actor) (wire : List Said) → StandsForActor odd old.side a → Hands a (after odd a wire move) items end
 
 -- what is on the way to the actor are the words that these messages mean, as long as it takes them
 abbrev pub Carries : Actor → LinkedSide → List Said → Type 0
@@ -73,14 +73,14 @@ Carries a peer wire = IsOpen a → AllMean peer.said.items wire
 
 -- the next message of the peer is taken, and this is handed out
 pub record TakesNext (odd : Bool) (new left : LinkedSide) (a : Actor) (wire : List Said) (items : ℕ → List Tree) (end : ℕ → Option End) : Type 0 where
-  pub stands : StandsFor odd new.side (after odd a wire Take_message)
+  pub stands : StandsForActor odd new.side (after odd a wire Take_message)
   pub carries : Carries (after odd a wire Take_message) left (wire_after a wire Take_message)
   pub hands : Hands a (after odd a wire Take_message) items end
 
 -- the next message is refused
 pub record RefusesMessage (odd : Bool) (new : LinkedSide) (a : Actor) (wire : List Said) : Type 0 where
   pub names : List ℕ
-  pub stands : StandsFor odd new.side (after odd a wire (Refuse names))
+  pub stands : StandsForActor odd new.side (after odd a wire (Refuse names))
 
 -- nothing is said, and the table of the peer stays
 pub record SaysNothing (old new peer left : LinkedSide) : Type 0 where
@@ -90,12 +90,12 @@ pub record SaysNothing (old new peer left : LinkedSide) : Type 0 where
 -- from old to new a side took the next message of its peer, and left is the peer then
 pub record IsTake (old new peer left : LinkedSide) (items : ℕ → List Tree) (end : ℕ → Option End) : Type 0 where
   pub quiet : SaysNothing old new peer left
-  pub takes : (odd : Bool) (a : Actor) (wire : List Said) → StandsFor odd old.side a → Carries a peer wire → TakesNext odd new left a wire items end
+  pub takes : (odd : Bool) (a : Actor) (wire : List Said) → StandsForActor odd old.side a → Carries a peer wire → TakesNext odd new left a wire items end
 
 -- from old to new a side refused the next message of its peer, and left is the peer then
 pub record RefusesNext (old new peer left : LinkedSide) : Type 0 where
   pub quiet : SaysNothing old new peer left
-  pub refuses : (odd : Bool) (a : Actor) (wire : List Said) → StandsFor odd old.side a → Carries a peer wire → RefusesMessage odd new a wire
+  pub refuses : (odd : Bool) (a : Actor) (wire : List Said) → StandsForActor odd old.side a → Carries a peer wire → RefusesMessage odd new a wire
 
 -- what the next of these messages does, by what stands at the side; nothing where there is none
 -- Example: a STATUS on 3 is answered as one on 3, and a call of a function on a new number of the peer as that call.

@@ -4,7 +4,7 @@ ghost use Rattle.xd_value.specs.Tree.{Tree};
 ghost use Rattle.xd_channel.specs.declared.end.End.{End};
 ghost use Rattle.xd_pair.specs.Pair.{Actor, Move, Take_message, Refuse, Step, Odd, Even, run, start, beginning, PairLaw};
 ghost use Rattle.xd_pair.specs.Handed.{Hands};
-ghost use Rattle.xd_pair.specs.Stands.{StandsFor, IsMoveIf, HandsOut, IsTake, RefusesNext};
+ghost use Rattle.xd_pair.specs.Stands.{StandsForActor, IsMoveIf, HandsOut, IsTake, RefusesNext};
 ghost use Rattle.xd_pair.specs.TwoSides.{PairStands};
 ghost use Rattle.xd_pair.specs.declared.linked.LinkedSide.{LinkedSide};
 
@@ -18,7 +18,7 @@ pub fn pair_law()
 /// Two new sides, and nothing on the way between them, are as no step leaves them.
 pub fn start_law()
     ensures { (odd even : LinkedSide)
-        → StandsFor true odd.side (beginning 1) → StandsFor false even.side (beginning 2)
+        → StandsForActor true odd.side (beginning 1) → StandsForActor false even.side (beginning 2)
         → odd.said.items ≡ [] → even.said.items ≡ [] → PairStands odd even [] }
 {}
 

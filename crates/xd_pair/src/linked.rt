@@ -34,12 +34,12 @@ impl LinkedSide {
     ghost use Rattle.xd_factory.specs.Numbers.{first_number};
     ghost use Rattle.xd_pair.specs.Notes.{side_parity};
     ghost use Rattle.xd_pair.specs.Pair.{beginning};
-    ghost use Rattle.xd_pair.specs.Stands.{StandsFor};
+    ghost use Rattle.xd_pair.specs.Stands.{StandsForActor};
 
     /// A side that has opened and said nothing, and on which nothing came.
     pub fn new(alloc: Global, parity: Parity) -> LinkedSide
         ensures stands { (odd : Bool) → parity ≡ side_parity odd
-            → StandsFor odd result.side (beginning (first_number parity)) }
+            → StandsForActor odd result.side (beginning (first_number parity)) }
         ensures silent { result.said.items ≡ [] }
     {
         LinkedSide {

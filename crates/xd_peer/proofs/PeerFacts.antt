@@ -25,7 +25,7 @@ use Rattle.xd_factory.specs.View.{slot_of_number}
 use Rattle.xd_remote.specs.Calls.{terminate_message}
 use Rattle.xd_remote.specs.Line.{ClosesSink, ClosesNow, GatewaySink, PrintsBytes}
 use Rattle.xd_remote.specs.News.{Heard, all_messages, all_news}
-use Rattle.xd_remote.specs.Stands.{HearsMore, IsOfMessage, StandsFor, heard_as}
+use Rattle.xd_remote.specs.Stands.{HearsMore, IsOfMessage, StandsForHeard, heard_as}
 use Rattle.xd_remote.specs.Told.{is_last}
 use Rattle.xd_remote.specs.View.{side_of}
 use Rattle.xd_remote.specs.declared.gateway.Gateway.{Gateway}
@@ -392,10 +392,10 @@ late_whole was ended lost closed said late news ms s0 s1 faults stays ends whole
     (whole_taken was ended lost closed (said ++ late) news ms s0 s1 faults stays ends whole sent more over)
 
 module _ {K : Type 0} where
-  pub heard_kept : (g k : Gateway K) (ended b0 b1 : Bool) (taken : List LinkNews) (said : List What) → ((h : List Heard) → StandsFor g h → StandsFor k h) → (b0 ≡ true → b1 ≡ true) → HeardSo g ended b0 taken said → HeardSo k ended b1 taken said
+  pub heard_kept : (g k : Gateway K) (ended b0 b1 : Bool) (taken : List LinkNews) (said : List What) → ((h : List Heard) → StandsForHeard g h → StandsForHeard k h) → (b0 ≡ true → b1 ≡ true) → HeardSo g ended b0 taken said → HeardSo k ended b1 taken said
   heard_kept g k ended b0 b1 taken said f more s = record { heard = s.heard; stands = f s.heard s.stands; tells = tells_kept ended s.heard b0 b1 taken said more s.tells }
 
-  pub heard_none : (g : Gateway K) (b : Bool) (taken : List LinkNews) (said late : List What) → StandsFor g [] → taken ≡ [] → said ≡ [] → late ≡ [] → HeardSo g false b taken (said ++ late)
+  pub heard_none : (g : Gateway K) (b : Bool) (taken : List LinkNews) (said late : List What) → StandsForHeard g [] → taken ≡ [] → said ≡ [] → late ≡ [] → HeardSo g false b taken (said ++ late)
   heard_none g b taken said late f nothing none no_late = record { heard = []; stands = f; tells = record { taken_are = ap of_link nothing; said_are = ap (λ (l : List What). l ++ late) none ∙ no_late } }
 
   -- after its end nothing is said of a link
@@ -410,7 +410,7 @@ module _ {K : Type 0} where
       }
   heard_past g false b taken item said e s = absurd (cc e)
 
-  pub heard_message : (g k : Gateway K) (ended b : Bool) (taken : List LinkNews) (m : MessageView) (item : LinkNews) (said : List What) (news : Option What) → ended ≡ false → item ≡ Message m → ((h : List Heard) → StandsFor g h → HearsMore k h m news)
+  pub heard_message : (g k : Gateway K) (ended b : Bool) (taken : List LinkNews) (m : MessageView) (item : LinkNews) (said : List What) (news : Option What) → ended ≡ false → item ≡ Message m → ((h : List Heard) → StandsForHeard g h → HearsMore k h m news)
       → HeardSo g ended b taken said → HeardSo k false b (taken ++ item ∷ []) (said ++ option_to_list news)
   heard_message g k true b taken m item said news e is hears s = absurd (cc e)
   heard_message g k false b taken m item said news e is hears s =

@@ -9,7 +9,7 @@ use Rattle.xd_reader.specs.declared.news.LinkNews.TheVariants.{Message, End, Out
 use Rattle.xd_reader.specs.declared.news.LinkStop.{LinkStop}
 use Rattle.xd_reader.specs.declared.news.LinkStop.TheVariants as stop
 use Rattle.xd_remote.specs.News.{Heard, all_messages, all_news}
-use Rattle.xd_remote.specs.Stands.{StandsFor}
+use Rattle.xd_remote.specs.Stands.{StandsForHeard}
 use Rattle.xd_remote.specs.declared.gateway.Gateway.{Gateway}
 
 -- the cause of a link's stop
@@ -80,5 +80,5 @@ module _ {K : Type 0} where
   -- What was said of a link are the news of the items that were taken of it, by what its gateway heard.
   pub record HeardSo (g : Gateway K) (ended broken : Bool) (taken : List LinkNews) (said : List What) : Type 0 where
     pub heard : List Heard
-    pub stands : StandsFor g heard
+    pub stands : StandsForHeard g heard
     pub tells : Tells ended heard broken taken said

@@ -11,7 +11,7 @@ ghost use Rattle.xd_gateway.specs.Orders.{order_of, order_tree};
 ghost use Rattle.xd_remote.specs.Calls.{kwargs_of, terminate_message};
 ghost use Rattle.xd_remote.specs.Line.{ClosesNow};
 ghost use Rattle.xd_remote.specs.News.{Heard};
-ghost use Rattle.xd_remote.specs.Stands.{IsNew, StandsFor};
+ghost use Rattle.xd_remote.specs.Stands.{IsNew, StandsForHeard};
 ghost use Rattle.xd_remote.specs.View.{ClosesOn, PrintsOn, is_broken, line_of, side_of};
 ghost use Rattle.xd_phrases.specs.Names.{mode_text};
 ghost use Rattle.xd_peer.specs.Orders.{WritesOrder};
@@ -80,7 +80,7 @@ pub fn call_worker<N: Sink + Drop>(
     ensures lost { IfOk result (λ b. b ≡ is_broken gateway.new) }
     ensures prints { OnOk result
         (PrintsOn N.sunk N.faults gateway.old gateway.new (frame (call_message suite.now mode))) }
-    ensures stands { OnOk result (StandsFor gateway.new []) }
+    ensures stands { OnOk result (StandsForHeard gateway.new []) }
 {
     let name = Text::of(alloc, "run_tests")?;
     let kwargs = kwargs_of_call(alloc, suite, mode)?;
@@ -103,7 +103,7 @@ pub fn write_order<N: Sink + Drop>(
         send_refusal (slot_of_number (side_of gateway.old) 1) ≡ None
         → OnOk result (WritesOrder (order_message e) (line_of N.sunk N.faults gateway.old)
         (line_of N.sunk N.faults gateway.new)) }
-    ensures stands { (h : List Heard) → StandsFor gateway.old h → StandsFor gateway.new h }
+    ensures stands { (h : List Heard) → StandsForHeard gateway.old h → StandsForHeard gateway.new h }
 {
     match gateway.say(1, value) {
         Ok(()) => Ok(false),
@@ -119,7 +119,7 @@ pub fn write_order<N: Sink + Drop>(
 pub fn end_worker<N: Sink + Drop>(gateway: &mut Gateway<N>) -> bool
     ensures lost { result ≡ is_broken gateway.new }
     ensures closes { ClosesOn N.sunk N.faults gateway.old gateway.new (frame terminate_message) }
-    ensures stands { (h : List Heard) → StandsFor gateway.old h → StandsFor gateway.new h }
+    ensures stands { (h : List Heard) → StandsForHeard gateway.old h → StandsForHeard gateway.new h }
 {
     gateway.exit().is_err()
 }
@@ -129,7 +129,7 @@ pub fn close_link<N: Sink + Drop>(gateway: &mut Gateway<N>) -> bool
     ensures lost { result ≡ is_broken gateway.new }
     ensures closes { ClosesNow (line_of N.sunk N.faults gateway.old)
         (line_of N.sunk N.faults gateway.new) }
-    ensures stands { (h : List Heard) → StandsFor gateway.old h → StandsFor gateway.new h }
+    ensures stands { (h : List Heard) → StandsForHeard gateway.old h → StandsForHeard gateway.new h }
 {
     gateway.close().is_err()
 }

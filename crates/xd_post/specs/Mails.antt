@@ -54,5 +54,5 @@ module _ {T : Type 0} where
   NoneBefore known first number = (k : ℕ) → ComesBefore first number k → slice_index_or known k [] ≡ []
 
   -- the number of the inbox that the next take looks at first
-  abbrev pub turn : Desk T → ℕ
-  turn desk = desk.turn
+  abbrev pub next_inbox : Desk T → ℕ
+  next_inbox desk = desk.turn

@@ -20,12 +20,12 @@ pub struct Desk<T: Drop> {
 
 impl<T: Drop> Desk<T> {
     ghost use Rattle.xd_post.specs.Post.{put, ring_of_sender, Empties};
-    ghost use Rattle.xd_post.specs.Mails.{mails, knows, turn, mail_of, HasMail, TakesAt, NoneKnown, NoneFrom, NoneBefore};
+    ghost use Rattle.xd_post.specs.Mails.{mails, knows, next_inbox, mail_of, HasMail, TakesAt, NoneKnown, NoneFrom, NoneBefore};
 
     /// A desk without inboxes, woken by this bell.
     pub fn new(alloc: Global, bell: Bell) -> Desk<T>
         ensures mails { mails result ≡ [] }
-        ensures turn { turn result ≡ 0 }
+        ensures turn { next_inbox result ≡ 0 }
     {
         Desk {
             bell,
@@ -45,7 +45,7 @@ impl<T: Drop> Desk<T> {
         ensures number { IfOk result (λ number. number ≡ length (mails self.old)) }
         ensures added { OnOk result (mails self.new ≡ mails self.old ++ mail_of (Some inbox) ∷ []) }
         ensures err { OnErr result (mails self.new ≡ mails self.old) }
-        ensures turn { turn self.new ≡ turn self.old }
+        ensures turn { next_inbox self.new ≡ next_inbox self.old }
     {
         let number = self.inboxes.len() as u32;
         self.inboxes.push(Some(inbox))?;
@@ -59,7 +59,7 @@ impl<T: Drop> Desk<T> {
         ensures kept { IfNone result (knows self.new ≡ knows self.old) }
         ensures knew { IfNone result (NoneFrom (knows self.old) at (at + 1)) }
         ensures some { IfSome result (λ item. TakesAt (mails self.old) (mails self.new) at item) }
-        ensures turn { turn self.new ≡ turn self.old }
+        ensures turn { next_inbox self.new ≡ next_inbox self.old }
     {
         match &mut self.inboxes[at] {
             Some(inbox) => inbox.take(),
@@ -76,7 +76,7 @@ impl<T: Drop> Desk<T> {
         ensures some { IfSome result (λ r. TakesAt (mails self.old) (mails self.new) r.0 r.1) }
         ensures place { IfSome result (λ r. (from ≤ r.0) × (r.0 < to)) }
         ensures passed { IfSome result (λ r. NoneFrom (knows self.old) from r.0) }
-        ensures turn { turn self.new ≡ turn self.old }
+        ensures turn { next_inbox self.new ≡ next_inbox self.old }
     {
         for at in from..to {
             if let Some(item) = self.take_at(at) {
@@ -92,8 +92,8 @@ impl<T: Drop> Desk<T> {
         ensures knew { IfNone result (NoneKnown (knows self.old) × NoneKnown (knows self.new)) }
         ensures some { IfSome result (λ r. TakesAt (mails self.old) (mails self.new) r.0 r.1) }
         ensures place { IfSome result (λ r. r.0 < length (mails self.old)) }
-        ensures passed { IfSome result (λ r. NoneBefore (knows self.old) (turn self.old) r.0) }
-        ensures turn { turn self.new ≡ turn self.old }
+        ensures passed { IfSome result (λ r. NoneBefore (knows self.old) (next_inbox self.old) r.0) }
+        ensures turn { next_inbox self.new ≡ next_inbox self.old }
     {
         let first = self.turn;
         let count = self.inboxes.len();
@@ -106,11 +106,11 @@ impl<T: Drop> Desk<T> {
     /// Takes an item of the first inbox in turn that knows one. `None` only where this step knew no item of any inbox.
     pub fn take(&mut self) -> Option<(u32, T)>
         ensures none { IfNone result (mails self.new ≡ mails self.old) }
-        ensures same_turn { IfNone result (turn self.new ≡ turn self.old) }
+        ensures same_turn { IfNone result (next_inbox self.new ≡ next_inbox self.old) }
         ensures knew { IfNone result (NoneKnown (knows self.old) × NoneKnown (knows self.new)) }
         ensures some { IfSome result (λ r. TakesAt (mails self.old) (mails self.new) r.0 r.1) }
-        ensures turn { IfSome result (λ r. turn self.new ≡ r.0 + 1) }
-        ensures passed { IfSome result (λ r. NoneBefore (knows self.old) (turn self.old) r.0) }
+        ensures turn { IfSome result (λ r. next_inbox self.new ≡ r.0 + 1) }
+        ensures passed { IfSome result (λ r. NoneBefore (knows self.old) (next_inbox self.old) r.0) }
     {
         let (at, item) = self.take_in_turn()?;
         self.turn = at + 1;
@@ -120,8 +120,8 @@ impl<T: Drop> Desk<T> {
     /// Takes an item, and sleeps on the bell until it knows one.
     pub fn wait<R: Wait>(&mut self, rt: &R) -> (u32, T)
         ensures takes { TakesAt (mails self.old) (mails self.new) result.0 result.1 }
-        ensures turn { turn self.new ≡ result.0 + 1 }
-        ensures passed { NoneBefore (knows self.old) (turn self.old) result.0 }
+        ensures turn { next_inbox self.new ≡ result.0 + 1 }
+        ensures passed { NoneBefore (knows self.old) (next_inbox self.old) result.0 }
     {
         for _ in rt.forever() {
             let seen = self.bell.count(rt);
@@ -140,7 +140,7 @@ impl<T: Drop> Desk<T> {
             HasMail (mails self.old) inbox (ring_of_sender sender) got
             → Empties result.rest got (put sender) }
         ensures closed { mails self.new ≡ slice_set (mails self.old) inbox None }
-        ensures turn { turn self.new ≡ turn self.old }
+        ensures turn { next_inbox self.new ≡ next_inbox self.old }
     {
         match self.inboxes[inbox as usize].take() {
             Some(inbox) => inbox.close_with(sender),

@@ -14,7 +14,7 @@ use Rattle.xd_frame.specs.declared.pull.PullFault.TheVariants.{Bad, ReadFault, O
 use Rattle.xd_frame.specs.Header.{four_bytes_at, header_read, judged_header}
 use Rattle.xd_frame.specs.Kind.{kind_of}
 use Rattle.xd_frame.specs.Message.{MessageView, max_channel, max_payload}
-use Rattle.xd_frame.specs.Framer.{FramerView, StandsFor, fresh}
+use Rattle.xd_frame.specs.Framer.{FramerView, StandsForBytes, fresh_framer}
 use Rattle.xd_frame.specs.Pull.{HoldsLess, Pulls, few, lasting, refusal_by, pull_fault_of}
 use Rattle.xd_frame.specs.Stream.{left_over, header_in_front, messages, rest, rest_by, rest_of, Rest, Clean, Unfinished, Refused, end_meaning}
 use Rattle.xd_frame.proofs.Front.{err_front}
@@ -54,7 +54,7 @@ bad_not_failed s f e = by s.failed (if s.cut then Some (Bad Cut) else refusal_by
     by true x e = cc
     by false x e = refl
 
-all_of : (s : FramerView) (bytes : List ℕ) (put : List MessageView) → s.failed ≡ false → s.waiting ≡ [] → StandsFor s bytes put → put ≡ messages bytes
+all_of : (s : FramerView) (bytes : List ℕ) (put : List MessageView) → s.failed ≡ false → s.waiting ≡ [] → StandsForBytes s bytes put → put ≡ messages bytes
 all_of s bytes put ok waits k = sym (append-nil put) ∙ (ap (λ (ms : List MessageView). put ++ ms) (sym waits) ∙ (k.whole ok).all)
 
 go_less : (s : FramerView) (bytes : List ℕ) (put : List MessageView) → HoldsLess s bytes put → GoLess bytes put
@@ -63,7 +63,7 @@ go_less s bytes put k = record { following = s.held; bytes_are = k.bytes; less =
 rest_none : rest_of [] ≡ Clean
 rest_none = refl
 
-pub listens_first : (s : FramerView) → s ≡ fresh → StandsFor s [] [] → HoldsLess s [] [] → Listens [] [] s
+pub listens_first : (s : FramerView) → s ≡ fresh_framer → StandsForBytes s [] [] → HoldsLess s [] [] → Listens [] [] s
 listens_first s new stands less = record {
   stands = stands;
   less = less;

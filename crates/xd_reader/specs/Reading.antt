@@ -4,7 +4,7 @@ use Rattle.xd_frame.specs.declared.fault.FrameFault.TheVariants.{BadKind, BadCha
 use Rattle.xd_frame.specs.declared.pull.PullFault.{PullFault}
 use Rattle.xd_frame.specs.declared.pull.PullFault.TheVariants.{Bad, ReadFault, OutOfMemory}
 use Rattle.xd_frame.specs.Message.{MessageView}
-use Rattle.xd_frame.specs.Framer.{FramerView, StandsFor}
+use Rattle.xd_frame.specs.Framer.{FramerView, StandsForBytes}
 use Rattle.xd_frame.specs.Pull.{HoldsLess, pull_fault_of}
 use Rattle.xd_frame.specs.Stream.{messages}
 use Rattle.xd_link.specs.Source.{Gave}
@@ -32,7 +32,7 @@ stop_of_fault OutOfMemory = stop.OutOfMemory
 
 -- All whole messages of the bytes were put, and more bytes may come.
 pub record Listens (bytes : List ℕ) (put : List MessageView) (framer : FramerView) : Type 0 where
-  pub stands : StandsFor framer bytes put
+  pub stands : StandsForBytes framer bytes put
   pub less : HoldsLess framer bytes put
   pub goes : pull_fault_of framer ≡ None
   pub none_waits : framer.waiting ≡ []

@@ -57,7 +57,7 @@ struct Opened<'a, H: Files + Processes + Net> {
 }
 
 impl<'a, H: Files + Processes + Net> RealStarter<'a, H> {
-    ghost use Rattle.xd_link.specs.Starter.{has_child, has_not_failed};
+    ghost use Rattle.xd_link.specs.Starter.{has_child, link_not_failed};
     ghost use Rattle.xd_real.specs.Kept.{KeepsOneMore, is_child};
 
     /// It has started nothing, and has not failed yet. A child runs this program with the one word `worker`. A name
@@ -168,7 +168,7 @@ impl<'a, H: Files + Processes + Net> RealStarter<'a, H> {
         ensures not_ended { IfOk result (λ l. l.source.is_ended ≡ false) }
         ensures no_reads { IfOk result (λ l. l.source.faults ≡ 0) }
         ensures no_writes { IfOk result (λ l. l.sink.faults ≡ 0) }
-        ensures counted { Counted (has_not_failed result) self.old.faults self.new.faults }
+        ensures counted { Counted (link_not_failed result) self.old.faults self.new.faults }
     {
         self.links.reserve(1)?;
         let Ok(link) = u32::try_from(self.links.len()) else {

@@ -9,7 +9,7 @@ use Rattle.xd_factory.proofs.SideTables.{new_in}
 use Rattle.xd_factory.proofs.Meanings.{not_refused, one_meaning}
 use Rattle.xd_remote.proofs.Counted.{one_count}
 use Rattle.xd_journal.specs.declared.news.What.{What}
-use Rattle.xd_remote.specs.News.{AreHeard, Came, Ear, HasRoom, Heard, IsCame, IsNewsOf, SideRefuses, Refused, Said, all_messages, all_news, ear_after}
+use Rattle.xd_remote.specs.News.{AreHeard, CameAs, Ear, HasRoom, Heard, IsCame, IsNewsOf, SideRefuses, Refused, Said, all_messages, all_news, ear_after}
 
 -- ---- lists with a last item
 
@@ -39,7 +39,7 @@ not_both : (failed : Bool) (t : ChannelTable) (m : MessageView) (said : Word) �
 not_both true t m said g h room r = let z = g in cc
 not_both false t m said g h room r = taken_is_not_refused t m said h room r.0 r.1.0 r.1.1 r.1.2
 
-one_came : (e : Ear) (m : MessageView) (a b : Came) → IsCame e m a → IsCame e m b → a ≡ b
+one_came : (e : Ear) (m : MessageView) (a b : CameAs) → IsCame e m a → IsCame e m b → a ≡ b
 one_came e m (Said x) (Said y) p q = ap Said (one_meaning m x y p.means q.means)
 one_came e m (Said x) Refused p q = absurd (not_both e.failed e.table m x p.good p.means p.room q)
 one_came e m Refused (Said y) p q = absurd (not_both e.failed e.table m y q.good q.means q.room p)
@@ -50,7 +50,7 @@ one_came e m Refused Refused p q = refl
 one_heard : (x y : Heard) (g h : List Heard) → x.message ≡ y.message → x.came ≡ y.came → g ≡ h → ◌≡◌ {A = List Heard} (x ∷ g) (y ∷ h)
 one_heard x y g h a b c = rw c (ap (λ (k : Heard). k ∷ h) (same x.message y.message x.came y.came a b))
   where
-    same : (m n : MessageView) (d e : Came) → m ≡ n → d ≡ e → ◌≡◌ {A = Heard} (record { message = m; came = d }) (record { message = n; came = e })
+    same : (m n : MessageView) (d e : CameAs) → m ≡ n → d ≡ e → ◌≡◌ {A = Heard} (record { message = m; came = d }) (record { message = n; came = e })
     same m n d e p q = rw (p, q) refl
 
 all_heard : (g h : List Heard) → AreHeard g → AreHeard h → all_messages g ≡ all_messages h → g ≡ h

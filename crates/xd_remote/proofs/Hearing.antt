@@ -16,7 +16,7 @@ use Rattle.xd_journal.specs.declared.news.What.TheVariants as what
 use Rattle.xd_remote.specs.declared.gateway.Gateway.{Gateway}
 use Rattle.xd_remote.specs.News.{Heard, HasRoom, SideRefuses, Refused, Said, ear_after, is_finish, log_hooked, news_by}
 use Rattle.xd_remote.specs.Taking.{IsTaken, IsFaultOf, IsNamed}
-use Rattle.xd_remote.specs.Stands.{HearsMore, StandsFor}
+use Rattle.xd_remote.specs.Stands.{HearsMore, StandsForHeard}
 use Rattle.xd_remote.specs.View.{channels_of, has_finished, side_of}
 
 -- ---- a callback leaves why messages are refused
@@ -63,7 +63,7 @@ refused_came t e false m f s k r =
     (f, subst (λ (x : ChannelTable). RefusedBy None x m f) (k n) r')
 
 module _ {K : Type 0} where
-  pub hears_refused : (old new : Gateway K) (h : List Heard) (m : MessageView) (f : SideFault) → StandsFor old h → IsFaultOf (channels_of old) m f → IsNamed f → (channels_of new).fault ≡ Some f
+  pub hears_refused : (old new : Gateway K) (h : List Heard) (m : MessageView) (f : SideFault) → StandsForHeard old h → IsFaultOf (channels_of old) m f → IsNamed f → (channels_of new).fault ≡ Some f
       → has_finished new ≡ has_finished old → HearsMore new h m (Some what.Stray)
   hears_refused old new h m f s r n q e =
       let came : SideRefuses (ear_after h).failed (ear_after h).table m =
@@ -80,12 +80,12 @@ module _ {K : Type 0} where
         };
       }
 
-  pub refusal_heard : {E : Type 0} (r : Result (Option What) E) (old new : Gateway K) (h : List Heard) (m : MessageView) (f : SideFault) → StandsFor old h → IsFaultOf (channels_of old) m f → (channels_of new).fault ≡ Some f
+  pub refusal_heard : {E : Type 0} (r : Result (Option What) E) (old new : Gateway K) (h : List Heard) (m : MessageView) (f : SideFault) → StandsForHeard old h → IsFaultOf (channels_of old) m f → (channels_of new).fault ≡ Some f
       → has_finished new ≡ has_finished old → IfOk r (λ news. (news ≡ Some what.Stray) × IsNamed f) → IfOk r (λ news. HearsMore new h m news)
   refusal_heard (Ok news) old new h m f s r q e k = subst (λ (w : Option What). HearsMore new h m w) (sym k.0) (hears_refused old new h m f s r k.1 q e)
   refusal_heard (Err x) old new h m f s r q e k = tt
 
-  pub hears_taken : (old mid new : Gateway K) (h : List Heard) (m : MessageView) (taken : Taken Value) (news : Option What) → StandsFor old h → IsTaken m (channels_of old) (channels_of mid) taken
+  pub hears_taken : (old mid new : Gateway K) (h : List Heard) (m : MessageView) (taken : Taken Value) (news : Option What) → StandsForHeard old h → IsTaken m (channels_of old) (channels_of mid) taken
       → has_finished mid ≡ has_finished old → news ≡ news_by (has_finished mid) (taken_tree taken) → channels_of new ≡ log_hooked news (channels_of mid) → has_finished new ≡ (has_finished mid || is_finish news) → HearsMore new h m news
   hears_taken old mid new h m taken news s t f n c e =
       let finished : has_finished mid ≡ (ear_after h).finished = f ∙ s.finished in

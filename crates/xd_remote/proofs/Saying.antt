@@ -15,7 +15,7 @@ use Rattle.xd_remote.specs.Calls.{Wanted, exec_by, exec_message, exec_opened, op
 use Rattle.xd_remote.specs.Line.{GatewaySink, PrintsBytes, Says, write_answer}
 use Rattle.xd_remote.specs.News.{Heard}
 use Rattle.xd_remote.specs.Opening.{IsWanted, IsPayloadOf, IsUnopened}
-use Rattle.xd_remote.specs.Stands.{IsBegun, IsNew, StandsFor}
+use Rattle.xd_remote.specs.Stands.{IsBegun, IsNew, StandsForHeard}
 use Rattle.xd_remote.specs.View.{KeepsChannels, channels_of, has_finished, side_of}
 
 -- ---- the write
@@ -94,7 +94,7 @@ unpaid T F t d OutOfMemory h = refl
 -- ---- a list of messages
 
 module _ {K : Type 0} where
-  pub kept_stands : (old new : Gateway K) (h : List Heard) → KeepsChannels old new → StandsFor old h → StandsFor new h
+  pub kept_stands : (old new : Gateway K) (h : List Heard) → KeepsChannels old new → StandsForHeard old h → StandsForHeard new h
   kept_stands old new h k s =
       record {
         are = s.are;
@@ -103,13 +103,13 @@ module _ {K : Type 0} where
         finished = k.finished ∙ s.finished;
       }
 
-  begun : (old new : Gateway K) → IsNew old → channels_of new ≡ exec_opened (channels_of old) → has_finished new ≡ has_finished old → StandsFor new []
+  begun : (old new : Gateway K) → IsNew old → channels_of new ≡ exec_opened (channels_of old) → has_finished new ≡ has_finished old → StandsForHeard new []
   begun old new n c e =
       let q : channels_of new ≡ exec_opened (channels_of old) = c in
       let none : fault_of (side_of new) ≡ None = ap (λ (t : ChannelTable). t.fault) c ∙ ap (λ (t : ChannelTable). t.fault) n.channels in
       record { are = tt; failed = ap is_some none; channels = λ z. c ∙ ap exec_opened n.channels; finished = e ∙ n.unfinished }
 
-  pub first_stands : {T : Type 0} (r : Result T GatewayFault) (old new : Gateway K) → IsNew old → IsBegun r → channels_of new ≡ opened_by exec_opened r (channels_of old) → has_finished new ≡ has_finished old → StandsFor new []
+  pub first_stands : {T : Type 0} (r : Result T GatewayFault) (old new : Gateway K) → IsNew old → IsBegun r → channels_of new ≡ opened_by exec_opened r (channels_of old) → has_finished new ≡ has_finished old → StandsForHeard new []
   first_stands (Ok x) old new n b c e = begun old new n c e
   first_stands (Err SendFault) old new n b c e = begun old new n c e
   first_stands (Err (Channel f)) old new n b c e = absurd b

@@ -17,8 +17,8 @@ use Rattle.xd_factory.specs.View.{fault_of, slot_of_number}
 use Rattle.xd_journal.specs.declared.news.What.{What}
 use Rattle.xd_journal.specs.declared.news.What.TheVariants as what
 use Rattle.xd_remote.specs.declared.gateway.Gateway.{Gateway}
-use Rattle.xd_remote.specs.News.{Came, Ear, Heard, Refused, Said, all_news, came_news, close_of, ear_after, ear_with, is_finish, log_hooked, news_by}
-use Rattle.xd_remote.specs.Stands.{StandsFor}
+use Rattle.xd_remote.specs.News.{CameAs, Ear, Heard, Refused, Said, all_news, came_news, close_of, ear_after, ear_with, is_finish, log_hooked, news_by}
+use Rattle.xd_remote.specs.Stands.{StandsForHeard}
 use Rattle.xd_remote.specs.Told.{has_last, is_last}
 use Rattle.xd_remote.specs.View.{side_of}
 
@@ -148,7 +148,7 @@ or_false : (a b : Bool) → a ≡ false → b ≡ false → a || b ≡ false
 or_false true b h k = h
 or_false false b h k = k
 
-step : (e : Ear) (came : Came) → Listening e → last_in (came_news e came) ≡ false → Listening (ear_with e came)
+step : (e : Ear) (came : CameAs) → Listening e → last_in (came_news e came) ≡ false → Listening (ear_with e came)
 step e Refused l h = absurd (let z : true ≡ false = h in cc)
 step e (Said said) l h =
     record {
@@ -169,7 +169,7 @@ can_send (Here s) o = let q : s.sending ≡ true = o.1 in rw q refl
 can_send Gone o = absurd o
 
 module _ {K : Type 0} where
-  pub can_be_told : (g : Gateway K) (h : List Heard) → StandsFor g h → has_last (all_news h) ≡ false → send_refusal (slot_of_number (side_of g) 1) ≡ None
+  pub can_be_told : (g : Gateway K) (h : List Heard) → StandsForHeard g h → has_last (all_news h) ≡ false → send_refusal (slot_of_number (side_of g) 1) ≡ None
   can_be_told g h s k =
       let l = listens h k in
       let good : fault_of (side_of g) ≡ None = none_of (fault_of (side_of g)) (s.failed ∙ l.good) in

@@ -66,17 +66,17 @@ is_finish (Some what.Finished) = true
 is_finish _ = false
 
 -- what a message was: it said something, or the side refused it
-pub data Came : Type 0 where
-  Said : Word → Came
-  Refused : Came
+pub data CameAs : Type 0 where
+  Said : Word → CameAs
+  Refused : CameAs
 
 -- the news of a message, by what it was; one that the side refuses is stray
-abbrev pub came_news : Ear → Came → Option What
+abbrev pub came_news : Ear → CameAs → Option What
 came_news e (Said said) = news_by e.finished (answer said e.table)
 came_news e Refused = Some what.Stray
 
 -- the ear after one message more
-abbrev pub ear_with : Ear → Came → Ear
+abbrev pub ear_with : Ear → CameAs → Ear
 ear_with e (Said said) =
     let news = came_news e (Said said) in
     record { table = log_hooked news (heard_of_message said e.table); failed = false; finished = e.finished || is_finish news }
@@ -85,7 +85,7 @@ ear_with e Refused = record e { failed = true }
 -- a message, with what it was
 pub record Heard : Type 0 where
   pub message : MessageView
-  pub came : Came
+  pub came : CameAs
 
 -- the ear after these messages, of which the last stands first
 abbrev pub ear_after : List Heard → Ear
@@ -120,7 +120,7 @@ SideRefuses true t m = Unit {0}
 SideRefuses false t m = (fault : SideFault) × RefusedBy None t m fault
 
 -- a message is what it is said to be: the side takes it and it says this, or the side refuses it
-abbrev pub IsCame : Ear → MessageView → Came → Type 0
+abbrev pub IsCame : Ear → MessageView → CameAs → Type 0
 IsCame e m (Said said) = Takes e m said
 IsCame e m Refused = SideRefuses e.failed e.table m
 

@@ -9,11 +9,11 @@ use Rattle.xd_journal.specs.declared.news.What.TheVariants.{Gone, NotStarted}
 use Rattle.xd_remote.specs.declared.fault.GatewayFault.{GatewayFault}
 use Rattle.xd_remote.specs.declared.fault.GatewayFault.TheVariants.{SendFault, Channel, Opening, OutOfMemory}
 use Rattle.xd_remote.specs.declared.gateway.Gateway.{Gateway}
-use Rattle.xd_remote.specs.News.{AreHeard, Came, Heard, IsCame, came_news, ear_after}
+use Rattle.xd_remote.specs.News.{AreHeard, CameAs, Heard, IsCame, came_news, ear_after}
 use Rattle.xd_remote.specs.View.{channels_of, has_finished, is_broken, side_of}
 
 -- a message, with what it was
-abbrev pub heard_as : MessageView → Came → Heard
+abbrev pub heard_as : MessageView → CameAs → Heard
 heard_as m came = record { message = m; came = came }
 
 -- a call was written, or begun
@@ -39,7 +39,7 @@ module _ {K : Type 0} where
 
   -- It called `run_tests` first and took these messages, of which the last stands first.
   -- Example: a new gateway of the starting side called `run_tests`: it stands for no message.
-  pub record StandsFor (g : Gateway K) (h : List Heard) : Type 0 where
+  pub record StandsForHeard (g : Gateway K) (h : List Heard) : Type 0 where
     pub are : AreHeard h
     pub failed : is_some (fault_of (side_of g)) ≡ (ear_after h).failed
     pub channels : fault_of (side_of g) ≡ None → channels_of g ≡ (ear_after h).table
@@ -47,7 +47,7 @@ module _ {K : Type 0} where
 
   -- One message more, with its news.
   pub record HearsMore (new : Gateway K) (h : List Heard) (m : MessageView) (news : Option What) : Type 0 where
-    pub came : Came
+    pub came : CameAs
     pub is : IsCame (ear_after h) m came
     pub news_are : news ≡ came_news (ear_after h) came
-    pub stands : StandsFor new (heard_as m came ∷ h)
+    pub stands : StandsForHeard new (heard_as m came ∷ h)

@@ -20,7 +20,7 @@ use xd_value::{DumpFault, Value, dumps};
 
 impl<K: Sink> Gateway<K> {
     ghost use Rattle.xd_remote.specs.News.{Heard};
-    ghost use Rattle.xd_remote.specs.Stands.{IsBegun, IsNew, StandsFor};
+    ghost use Rattle.xd_remote.specs.Stands.{IsBegun, IsNew, StandsForHeard};
     ghost use Rattle.xd_remote.specs.View.{KeepsChannels, IsLost, OpensOn, SaysOn, has_finished, is_broken, side_of};
 
     /// Calls a function of the other side by its name, on a channel that opens, and gives the number of the channel. What
@@ -36,7 +36,7 @@ impl<K: Sink> Gateway<K> {
         ensures number { IfOk result (λ n. n ≡ next_of (side_of self.old)) }
         ensures channels { OpensOn exec_opened self.old self.new result }
         ensures finished { has_finished self.new ≡ has_finished self.old }
-        ensures first { IsNew self.old → IsBegun result → StandsFor self.new [] }
+        ensures first { IsNew self.old → IsBegun result → StandsForHeard self.new [] }
     {
         if self.is_broken {
             return Err(GatewayFault::SendFault);
@@ -71,7 +71,7 @@ impl<K: Sink> Gateway<K> {
         ensures says { SaysOn K.sunk K.faults self.old self.new
             (say_wanted number (view value.now)) result }
         ensures rest { KeepsChannels self.old self.new }
-        ensures stands { (h : List Heard) → StandsFor self.old h → StandsFor self.new h }
+        ensures stands { (h : List Heard) → StandsForHeard self.old h → StandsForHeard self.new h }
     {
         if self.is_broken {
             return Err(GatewayFault::SendFault);

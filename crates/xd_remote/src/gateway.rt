@@ -29,7 +29,7 @@ pub struct Gateway<K: Sink> {
 impl<K: Sink> Gateway<K> {
     ghost use Rattle.xd_remote.specs.News.{Heard};
     ghost use Rattle.xd_remote.specs.Taking.{IsTaken, IsFaultOf, IsToRefuse};
-    ghost use Rattle.xd_remote.specs.Stands.{StandsFor};
+    ghost use Rattle.xd_remote.specs.Stands.{StandsForHeard};
     ghost use Rattle.xd_remote.specs.Lending.{lends_side};
     ghost use Rattle.xd_remote.specs.View.{ClosesOn, KeepsChannels, KeepsLine, PrintsOn, channels_of, has_finished, is_broken, line_of, side_of, sink_of};
 
@@ -54,7 +54,7 @@ impl<K: Sink> Gateway<K> {
         ensures answer { result ≡ write_answer (is_broken self.new) }
         ensures prints { PrintsOn K.sunk K.faults self.old self.new (frame message.now) }
         ensures rest { KeepsChannels self.old self.new }
-        ensures stands { (h : List Heard) → StandsFor self.old h → StandsFor self.new h }
+        ensures stands { (h : List Heard) → StandsForHeard self.old h → StandsForHeard self.new h }
     {
         self.print(message);
         written(self.is_broken)
@@ -65,7 +65,7 @@ impl<K: Sink> Gateway<K> {
         ensures answer { result ≡ write_answer (is_broken self.new) }
         ensures closes { ClosesOn K.sunk K.faults self.old self.new (frame terminate_message) }
         ensures rest { KeepsChannels self.old self.new }
-        ensures stands { (h : List Heard) → StandsFor self.old h → StandsFor self.new h }
+        ensures stands { (h : List Heard) → StandsForHeard self.old h → StandsForHeard self.new h }
     {
         let message = Message::of(Kind::Terminate, 0, empty(self.alloc));
         self.print(&message);
@@ -79,7 +79,7 @@ impl<K: Sink> Gateway<K> {
         ensures closes { ClosesNow (line_of K.sunk K.faults self.old)
             (line_of K.sunk K.faults self.new) }
         ensures rest { KeepsChannels self.old self.new }
-        ensures stands { (h : List Heard) → StandsFor self.old h → StandsFor self.new h }
+        ensures stands { (h : List Heard) → StandsForHeard self.old h → StandsForHeard self.new h }
     {
         self.close_sink();
         written(self.is_broken)

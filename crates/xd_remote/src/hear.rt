@@ -21,13 +21,13 @@ use xd_value::Value;
 
 impl<K: Sink> Gateway<K> {
     ghost use Rattle.xd_remote.specs.News.{Heard};
-    ghost use Rattle.xd_remote.specs.Stands.{HearsMore, StandsFor};
+    ghost use Rattle.xd_remote.specs.Stands.{HearsMore, StandsForHeard};
     ghost use Rattle.xd_remote.specs.View.{KeepsLine, channels_of, has_finished};
 
     /// Takes a message of a worker, and gives the news that it means; `None` where it means none. A message that the side
     /// refuses is stray.
     pub fn hear(&mut self, message: Message) -> Result<Option<What>, OutOfMemory>
-        ensures hears { (h : List Heard) → StandsFor self.old h →
+        ensures hears { (h : List Heard) → StandsForHeard self.old h →
             IfOk result (HearsMore self.new h message) }
         ensures kind { IfOk result IsOfMessage }
         ensures line { KeepsLine self.old self.new }

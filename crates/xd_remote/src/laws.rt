@@ -6,7 +6,7 @@ ghost use Rattle.xd_factory.specs.View.{slot_of_number};
 ghost use Rattle.xd_journal.specs.declared.news.What.{What};
 ghost use Rattle.xd_remote.specs.declared.gateway.Gateway.{Gateway};
 ghost use Rattle.xd_remote.specs.News.{Heard, IsNewsOf, all_news};
-ghost use Rattle.xd_remote.specs.Stands.{StandsFor};
+ghost use Rattle.xd_remote.specs.Stands.{StandsForHeard};
 ghost use Rattle.xd_remote.specs.Told.{has_last};
 ghost use Rattle.xd_remote.specs.View.{side_of};
 
@@ -20,6 +20,6 @@ pub fn messages_have_one_meaning()
 
 /// Until the news of a worker say that it has ended, or that it broke the rules, channel 1 can be sent on.
 pub fn a_worker_can_be_told<K: Sink>()
-    ensures { (g : Gateway K) (h : List Heard) → StandsFor g h → has_last (all_news h) ≡ false
+    ensures { (g : Gateway K) (h : List Heard) → StandsForHeard g h → has_last (all_news h) ≡ false
         → send_refusal (slot_of_number (side_of g) 1) ≡ None }
 {}

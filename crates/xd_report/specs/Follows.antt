@@ -3,13 +3,13 @@ use Rattle.std.specs.Prelude.{◌≡◌, false, [], map}
 use Rattle.xd_ledger.specs.declared.seat.Seat.{Seat}
 use Rattle.xd_ledger.specs.Books.{Books}
 use Rattle.xd_ledger.specs.Sharing.{State}
-use Rattle.xd_ledger.specs.Table.{fresh}
+use Rattle.xd_ledger.specs.Table.{fresh_table}
 use Rattle.xd_held.specs.Holders.{seat_of_holder}
 use Rattle.xd_report.specs.declared.reporter.Reporter.{Reporter}
 
 -- the books but for where the tests stand, and for whether something is left to hand out
 abbrev pub apart : Books → Books
-apart b = record b { table = fresh []; shutting = false }
+apart b = record b { table = fresh_table []; shutting = false }
 
 -- of a worker in the rota what it holds
 abbrev pub bare_seat : Seat → Seat

@@ -27,7 +27,7 @@ use Rattle.xd_laws.specs.Called.{Called}
 use Rattle.xd_laws.proofs.Calls.{died-called}
 use Rattle.xd_laws.proofs.Inputs.{done-unstopped, down-unstopped, unstopped-before}
 use Rattle.xd_laws.proofs.Logic.{differ, split-and}
-use Rattle.xd_run_books.specs.Known.{Known, known_of, steal_told}
+use Rattle.xd_run_books.specs.Known.{Known, known_plan, steal_told}
 use Rattle.xd_run_books.specs.Books.{told_all}
 use Rattle.xd_rules.specs.Rules.{Acted, At, Before, Calls, DidClosing, Comes, MayDie, Ruled, members_told}
 use Rattle.xd_rules.proofs.Closing.{after_entries-append, append-nil, ruled, stop-told_all, told-moved}
@@ -38,7 +38,7 @@ use Rattle.xd_rules.proofs.Retrying.{plan-by-pool, plan-unshared}
 
 told-parts : (es : List Entry) (s : State) → Tells es
     → ((after_entries s es).books ≡ record (s.books) { table = (after_entries s es).books.table; members = members_told es s.books.members })
-    × (known_of (after_entries s es).plan ≡ record (known_of s.plan) { steal = steal_told es s.plan.steal })
+    × (known_plan (after_entries s es).plan ≡ record (known_plan s.plan) { steal = steal_told es s.plan.steal })
 told-parts [] s h = (refl, refl)
 told-parts (Run w is ∷ es) s h = told-parts es (after_entry s (Run w is)) (split-and true (list_all tells es) h).1
 told-parts (RunAll w ∷ es) s h = told-parts es (after_entry s (RunAll w)) (split-and true (list_all tells es) h).1
@@ -90,7 +90,7 @@ acted-call c change s b d k j none acts table old new stands stands_now z a t de
     let at_table : Table → Books = λ x. record (s.books) { table = x; members = members_told acts s.books.members } in
     let at_acts : List Entry → Books = λ es. record (s.books) { table = m.books.table; members = members_told es s.books.members } in
     let knows : Known → Known = λ x. record x { steal = steal_told acts x.steal } in
-    let knows_acts : List Entry → Known = λ es. record (known_of s.plan) { steal = steal_told es s.plan.steal } in
+    let knows_acts : List Entry → Known = λ es. record (known_plan s.plan) { steal = steal_told es s.plan.steal } in
     record {
       at = record {
         books_are = de ∙ ap from a.at.books_are ∙ ap at_table table_is ∙ ap at_acts acts_are ∙ sym (told-parts (acts_of c s) s (tells-acts c s)).0;
@@ -116,7 +116,7 @@ acted-append xs ys s b c k j e0 e1 e2 st0 st x y = record {
 }
 
 -- after a stop a mode stands for nothing
-pub stopped-at : (s : State) (b : Books) (k : Known) (stands : Plan → Type 0) → is_stopped b ≡ true → b ≡ s.books → k ≡ known_of s.plan → At s b k stands
+pub stopped-at : (s : State) (b : Books) (k : Known) (stands : Plan → Type 0) → is_stopped b ≡ true → b ≡ s.books → k ≡ known_plan s.plan → At s b k stands
 stopped-at s b k stands h e d = record { books_are = e; known_is = d; stands_for = λ q. absurd (differ (sym (ap is_stopped e ∙ q) ∙ h)) }
 
 pub acted-shut : (s : State) (b c : Books) (k : Known) (es fs : List Entry) (stands : Plan → Type 0) → At s b k stands → c ≡ told_all (waiting b.members) b → fs ≡ es ++ shut_all b.members

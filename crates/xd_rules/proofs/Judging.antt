@@ -34,7 +34,7 @@ use Rattle.xd_laws.proofs.Logic.{and, cases_of, differ, in_both, split-and}
 use Rattle.xd_laws.proofs.Placed.{StealFits, at_most_once, due_times}
 use Rattle.xd_laws.proofs.Places.{held-within, times-table}
 use Rattle.xd_laws.proofs.Turns.{Tidy}
-use Rattle.xd_run_books.specs.Known.{Known, first_item, is_after, known_of, where_is}
+use Rattle.xd_run_books.specs.Known.{Known, first_item, is_after, known_plan, where_is}
 use Rattle.xd_rules.specs.Rules.{At, Comes}
 use Rattle.xd_rules.proofs.Acts.{done-at}
 use Rattle.xd_run_books.proofs.Deaths.{no_seat-held}
@@ -51,7 +51,7 @@ names-by true n i (h ∷ hs) = grind (arith, nat_tests)
 names-by false n i (h ∷ hs) = grind (arith, nat_tests)
 
 -- the worker's number names its head where the item is there
-pub names-where : (w i : ℕ) (s : State) → names_head w i s ≡ is_some (where_is (first_item (slot_of w s.books) (known_of s.plan) + i) (first_of (held w s.books.table)))
+pub names-where : (w i : ℕ) (s : State) → names_head w i s ≡ is_some (where_is (first_item (slot_of w s.books) (known_plan s.plan) + i) (first_of (held w s.books.table)))
 names-where w i s = names-by (is_each s.plan.mode) (sum (take (slot_of w s.books) s.plan.sizes)) i (held w s.books.table)
 
 pub where-head : (x item : ℕ) (o : Option ℕ) → where_is x o ≡ Some item → o ≡ Some item
@@ -72,7 +72,7 @@ where-item x item (Some head) h = grind (arith, nat_tests, h)
 abbrev pub found_at : ℕ → ℕ → Books → Known → Option ℕ
 found_at w i b k = where_is (first_item (slot_of w b) k + i) (first_of (held w b.table))
 
-pub named-in : (w i : ℕ) (s : State) (b : Books) (k : Known) → b ≡ s.books → k ≡ known_of s.plan → is_some (found_at w i b k) ≡ names_head w i s
+pub named-in : (w i : ℕ) (s : State) (b : Books) (k : Known) → b ≡ s.books → k ≡ known_plan s.plan → is_some (found_at w i b k) ≡ names_head w i s
 named-in w i s b k e d = ap (λ (x : Books). is_some (found_at w i x k)) e ∙ ap (λ (q : Known). is_some (found_at w i s.books q)) d ∙ sym (names-where w i s)
 
 -- a worker without a seat has no head
@@ -87,8 +87,8 @@ named-by true n i item e = ap (λ k. k ∷ []) (sym e)
 named-by false n i item e = ap (λ k. k ∷ []) (omega (arith, e))
 
 -- that item is the one that the number names
-pub where-named : (w i item : ℕ) (s : State) (o : Option ℕ) → where_is (first_item (slot_of w s.books) (known_of s.plan) + i) o ≡ Some item → items_named (slot_of w s.books) (i ∷ []) s.plan ≡ item ∷ []
-where-named w i item s o h = named-by (is_each s.plan.mode) (sum (take (slot_of w s.books) s.plan.sizes)) i item (where-item (first_item (slot_of w s.books) (known_of s.plan) + i) item o h)
+pub where-named : (w i item : ℕ) (s : State) (o : Option ℕ) → where_is (first_item (slot_of w s.books) (known_plan s.plan) + i) o ≡ Some item → items_named (slot_of w s.books) (i ∷ []) s.plan ≡ item ∷ []
+where-named w i item s o h = named-by (is_each s.plan.mode) (sum (take (slot_of w s.books) s.plan.sizes)) i item (where-item (first_item (slot_of w s.books) (known_plan s.plan) + i) item o h)
 
 -- what is held
 
@@ -125,7 +125,7 @@ nothing-added : (x : ℕ) → x ≡ 0 + x
 nothing-added x = omega arith
 
 -- the names of a list are those of its tests
-pub among-named : (slot : ℕ) (is : List ℕ) (p : Plan) (ys : List ℕ) → all_among (items_named slot is p) ys ≡ list_all (λ i. among (first_item slot (known_of p) + i) ys) is
+pub among-named : (slot : ℕ) (is : List ℕ) (p : Plan) (ys : List ℕ) → all_among (items_named slot is p) ys ≡ list_all (λ i. among (first_item slot (known_plan p) + i) ys) is
 among-named slot is p ys = by-each (is_each p.mode) (sum (take slot p.sizes)) is
   where
     by-each : (each : Bool) (n : ℕ) (xs : List ℕ) → all_among (if each then map (λ j. (if each then n else 0) + j) xs else xs) ys ≡ list_all (λ i. among ((if each then n else 0) + i) ys) xs
@@ -139,7 +139,7 @@ named-items true n xs = refl
 named-items false n [] = refl
 named-items false n (x ∷ xs) = ap (λ ys. x ∷ ys) (named-items false n xs) ∙ ap (λ v. v ∷ map (λ j. 0 + j) xs) (nothing-added x)
 
-pub items-are : (slot : ℕ) (is : List ℕ) (p : Plan) → items_named slot is p ≡ map (λ i. first_item slot (known_of p) + i) is
+pub items-are : (slot : ℕ) (is : List ℕ) (p : Plan) → items_named slot is p ≡ map (λ i. first_item slot (known_plan p) + i) is
 items-are slot is p = named-items (is_each p.mode) (sum (take slot p.sizes)) is
 
 -- the test at the head ended
@@ -148,7 +148,7 @@ pub done-found : (s : State) (w i : ℕ) (o : Outcome) (ms : ℕ) (out : List �
     → where_is (first_item (slot_of w b) k + i) (first_of (held w b.table)) ≡ Some item → c ≡ done_books w (item ∷ []) o b → At (after_effect s (Done w i o ms out)) c k stands
 done-found s w i o ms out item b c k stands a h e =
     let there : Books → Known → Option ℕ = λ d q. where_is (first_item (slot_of w d) q + i) (first_of (held w d.table)) in
-    let found : there s.books (known_of s.plan) ≡ Some item = sym (ap (λ (d : Books). there d k) a.books_are ∙ ap (λ (q : Known). there s.books q) a.known_is) ∙ h in
+    let found : there s.books (known_plan s.plan) ≡ Some item = sym (ap (λ (d : Books). there d k) a.books_are ∙ ap (λ (q : Known). there s.books q) a.known_is) ∙ h in
     done-at s w i o ms out item b c k stands a (where-named w i item s (first_of (held w s.books.table)) found) e
 
 -- a result takes no stop back
@@ -184,9 +184,9 @@ pub record GivesBack (w : ℕ) (is : List ℕ) (b : Books) (k : Known) : Type 0 
   pub distinct : all_distinct (map (λ i. first_item (slot_of w b) k + i) is) ≡ true
   pub holds : all_among (map (λ i. first_item (slot_of w b) k + i) is) (held w b.table) ≡ true
 
-gives-state : (s : State) (w : ℕ) (is : List ℕ) → Reached s → sum s.plan.sizes ≤ most_items → may_follow s (Back w is) ≡ true → GivesBack w is s.books (known_of s.plan)
+gives-state : (s : State) (w : ℕ) (is : List ℕ) → Reached s → sum s.plan.sizes ≤ most_items → may_follow s (Back w is) ≡ true → GivesBack w is s.books (known_plan s.plan)
 gives-state s w is r few h =
-    let first = first_item (slot_of w s.books) (known_of s.plan) in
+    let first = first_item (slot_of w s.books) (known_plan s.plan) in
     let hs = held w s.books.table in
     let items = map (λ i. first + i) is in
     let named : List ℕ → List ℕ = λ xs. items_named (slot_of w s.books) xs s.plan in
@@ -266,12 +266,12 @@ all-following first [] hs d k = refl
 all-following first (i ∷ is) hs d k = ap (λ b. b && list_all (λ j. is_after (first + j) hs) is) (following-small (first + i) hs d k) ∙ ap (λ b. among (first + i) (drop 1 hs) && b) (all-following first is hs d k)
 
 -- the worker's numbers name tests after its head where the ledger says so of each
-pub named_after : (w : ℕ) (is : List ℕ) (s : State) (b : Books) (k : Known) → Reached s → b ≡ s.books → k ≡ known_of s.plan → sum k.sizes ≤ most_items
+pub named_after : (w : ℕ) (is : List ℕ) (s : State) (b : Books) (k : Known) → Reached s → b ≡ s.books → k ≡ known_plan s.plan → sum k.sizes ≤ most_items
     → list_all (λ i. is_after (first_item (slot_of w b) k + i) (held w b.table)) is ≡ all_among (items_named (slot_of w s.books) is s.plan) (drop 1 (held w s.books.table))
 named_after w is s b k r e d few =
     let low : sum s.plan.sizes ≤ most_items = subst (λ (q : Known). sum q.sizes ≤ most_items) d few in
     let hs = held w s.books.table in
-    let first = first_item (slot_of w s.books) (known_of s.plan) in
+    let first = first_item (slot_of w s.books) (known_plan s.plan) in
     ap (λ (x : Books). list_all (λ i. is_after (first_item (slot_of w x) k + i) (held w x.table)) is) e
     ∙ ap (λ (q : Known). list_all (λ i. is_after (first_item (slot_of w s.books) q + i) hs) is) d
     ∙ all-following first is hs (held-distinct s w r) (λ x h. held-small s w x r low h)
@@ -317,7 +317,7 @@ judged-back (Some a) w v (i ∷ is) tests items following b e h n t k =
     both true false r x y = absurd (differ y)
     both false q r x y = absurd (differ x)
 
-pub may-answer : (s : State) (w v : ℕ) (is tests : List ℕ) (b : Books) (k : Known) (found : Bool) → Reached s → b ≡ s.books → k ≡ known_of s.plan → sum k.sizes ≤ most_items → k.steal ≡ Some (record { worker = v; tests = tests }) → (v == w) ≡ true
+pub may-answer : (s : State) (w v : ℕ) (is tests : List ℕ) (b : Books) (k : Known) (found : Bool) → Reached s → b ≡ s.books → k ≡ known_plan s.plan → sum k.sizes ≤ most_items → k.steal ≡ Some (record { worker = v; tests = tests }) → (v == w) ≡ true
     → (length is == 0) ≡ false → bytes_eq is tests ≡ true → found ≡ list_all (λ i. is_after (first_item (slot_of w b) k + i) (held w b.table)) is → found ≡ may_give_back w is s
 may-answer s w v is tests b k found r e d few o h n t f =
     judged-back s.plan.steal w v is tests (λ xs. items_named (slot_of w s.books) xs s.plan) (drop 1 (held w s.books.table)) found (sym (ap (λ (q : Known). q.steal) d) ∙ o) h n t (f ∙ named_after w is s b k r e d few)

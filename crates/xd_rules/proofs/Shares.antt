@@ -34,7 +34,7 @@ use Rattle.xd_laws.proofs.Logic.{cases_of, differ, in_both}
 use Rattle.xd_run_books.specs.declared.lists.Comparison.{Comparison}
 use Rattle.xd_run_books.specs.Compared.{compared, comparison, ids_to_list, stop_of_comparison}
 use Rattle.xd_rules.specs.Joining.{TakenIn, filled, shared_in, sizes_in, taken_in}
-use Rattle.xd_run_books.specs.Known.{Known, known_of}
+use Rattle.xd_run_books.specs.Known.{Known, known_plan}
 use Rattle.xd_rules.specs.Rules.{Acted, At, Before, Calls, Comes, MayJoin, MayShare}
 use Rattle.xd_rules.proofs.Acts.{acted-by, acted-none, choose-third}
 
@@ -80,12 +80,12 @@ pub calls-share : (s : State) (b : Books) (k : Known) (stands : Plan → Type 0)
 calls-share s b k stands a m =
     let counts : Known → Books → List ℕ = λ x d. sizes_in x.mode d in
     let plan_in : Known → Books → Plan = λ x d. shared_in x.mode d s.plan in
-    let sizes : counts k b ≡ (shared_now s).plan.sizes = ap (λ (x : Known). counts x b) a.known_is ∙ ap (λ (d : Books). counts (known_of s.plan) d) a.books_are in
-    let plan : plan_in k b ≡ (shared_now s).plan = ap (λ (x : Known). plan_in x b) a.known_is ∙ ap (λ (d : Books). plan_in (known_of s.plan) d) a.books_are in
+    let sizes : counts k b ≡ (shared_now s).plan.sizes = ap (λ (x : Known). counts x b) a.known_is ∙ ap (λ (d : Books). counts (known_plan s.plan) d) a.books_are in
+    let plan : plan_in k b ≡ (shared_now s).plan = ap (λ (x : Known). plan_in x b) a.known_is ∙ ap (λ (d : Books). plan_in (known_plan s.plan) d) a.books_are in
     let pooled : Books → Books = λ d. with_pool (counts k b) d in
     let sized : List ℕ → Books = λ ns. with_pool ns s.books in
     let known : Known → Known = λ x. record x { sizes = counts k b } in
-    let known_sizes : List ℕ → Known = λ ns. record (known_of s.plan) { sizes = ns } in
+    let known_sizes : List ℕ → Known = λ ns. record (known_plan s.plan) { sizes = ns } in
     record {
       at = record {
         books_are = ap pooled a.books_are ∙ ap sized sizes;

@@ -1,5 +1,5 @@
 -- What a rule of the session leaves.
-use Rattle.std.specs.Prelude.{◌≡◌, ℕ, ◌≤◌, false, true, List, [], ◌∷◌, ◌++◌, fold, map}
+use Rattle.std.specs.Prelude.{◌≡◌, ℕ, ◌≤◌, false, true, List, ◌∷◌, ◌++◌, fold, map}
 use Rattle.xd_journal.specs.declared.settings.Settings.{Settings}
 use Rattle.xd_journal.specs.declared.entry.Entry.{Entry}
 use Rattle.xd_journal.specs.declared.entry.Entry.TheVariants.{Shutdown}
@@ -20,12 +20,12 @@ use Rattle.xd_ledger.specs.Meaning.{spent_by}
 use Rattle.xd_laws.specs.Called.{Called, Reached}
 use Rattle.xd_run_books.specs.declared.logs.WorkerLog.{WorkerLog}
 use Rattle.xd_run_books.specs.Kept.{log_in, shortened}
-use Rattle.xd_run_books.specs.Known.{Known, known_of}
+use Rattle.xd_run_books.specs.Known.{Known, known_plan}
 
 -- what is kept of a run and its mode stand for the state; after a stop the mode is not called, and stands for nothing
 pub record At (s : State) (b : Books) (k : Known) (stands : Plan → Type 0) : Type 0 where
   pub books_are : b ≡ s.books
-  pub known_is : k ≡ known_of s.plan
+  pub known_is : k ≡ known_plan s.plan
   pub stands_for : is_stopped s.books ≡ false → stands s.plan
 
 -- the mode stands for the plan as it was before this change

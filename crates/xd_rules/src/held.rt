@@ -12,7 +12,7 @@ ghost use Rattle.xd_ledger.specs.Table.{held, in_rota};
 ghost use Rattle.xd_ledger.specs.Workers.{slot_of};
 ghost use Rattle.xd_laws.specs.Called.{Called};
 ghost use Rattle.xd_run_books.specs.Books.{books_of};
-ghost use Rattle.xd_run_books.specs.Known.{first_item, known_by, known_of, where_is};
+ghost use Rattle.xd_run_books.specs.Known.{first_item, known_by, known_plan, where_is};
 ghost use Rattle.xd_rules.specs.Rules.{Acted, At, Before, Calls, Comes, Ruled};
 
 use crate::outputs::note;
@@ -29,7 +29,7 @@ impl<M: Mode> RunState<M> {
         ensures seated { (item : ℕ) → result ≡ Some item →
             in_rota worker self.now.books.ledger ≡ true }
         ensures only { (s : State) → books_of self.now.books ≡ s.books →
-            known_by self.now.known ≡ known_of s.plan → is_some result ≡ names_head worker index s }
+            known_by self.now.known ≡ known_plan s.plan → is_some result ≡ names_head worker index s }
         ensures named { result ≡ where_is
             (first_item (slot_of worker (books_of self.now.books))
             (known_by self.now.known) + index) (first_of (held worker self.now.books.ledger)) }

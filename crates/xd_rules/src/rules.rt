@@ -8,7 +8,7 @@ ghost use Rattle.xd_ledger.specs.State.{settles};
 ghost use Rattle.xd_ledger.specs.Stops.{is_stopped};
 ghost use Rattle.xd_ledger.specs.Table.{held};
 ghost use Rattle.xd_run_books.specs.Books.{books_of};
-ghost use Rattle.xd_run_books.specs.Known.{known_by, known_of};
+ghost use Rattle.xd_run_books.specs.Known.{known_by, known_plan};
 ghost use Rattle.xd_rules.specs.Rules.{Acted, At, DidClosing, Ruled};
 
 use crate::outputs::{note, shut_everyone, tell_where_shutting};
@@ -58,7 +58,7 @@ impl<M: Mode> RunState<M> {
     ) -> Result<(), OutOfMemory>
         requires { is_stopped (books_of self.old.books) ≡ true }
         ensures { OnOk result ((s : State) → books_of self.old.books ≡ s.books →
-            known_by self.old.known ≡ known_of s.plan →
+            known_by self.old.known ≡ known_plan s.plan →
             Acted (if before then [] else shut_all s.books.members) s (books_of self.new.books)
             (known_by self.new.known) entries.old.items entries.new.items
             (M.stands self.new.mode)) }

@@ -15,8 +15,8 @@ pub record Known : Type 0 where
   pub steal : Option UnansweredSteal
 
 -- what is known of a plan
-abbrev pub known_of : Plan → Known
-known_of p = record { mode = p.mode; sizes = p.sizes; steal = p.steal }
+abbrev pub known_plan : Plan → Known
+known_plan p = record { mode = p.mode; sizes = p.sizes; steal = p.steal }
 
 -- the open steal of the definitions for which the session's own one stands
 abbrev pub steal_of : Option OpenSteal → Option UnansweredSteal

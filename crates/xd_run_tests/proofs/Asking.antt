@@ -12,17 +12,17 @@ use Rattle.xd_run_tests.specs.declared.line_entry.LineEntry.{LineEntry}
 use Rattle.xd_run_tests.specs.declared.line_entry.LineEntry.TheVariants.{Test, Mark}
 use Rattle.xd_run_tests.specs.declared.line_entry.Standing.{Standing}
 use Rattle.xd_run_tests.specs.declared.line_entry.Standing.TheVariants.{Free}
-use Rattle.xd_run_tests.specs.Line.{has_test, kept, taken, is_asked, is_among, can_ask, all_queued}
+use Rattle.xd_run_tests.specs.Line.{has_test, kept, stolen_tests, is_asked, is_among, can_ask, all_queued}
 use Rattle.xd_run_tests.specs.Stands.{once, EachStandsAt, standing_by, TakenOut, freed_at, AreMarked, all_queued_at, queued_at, is_queued, is_true}
 use Rattle.xd_run_tests.proofs.Cut.{has_test-append}
 use Rattle.xd_run_tests.proofs.Once.{once_apart}
 
-taken-append : (ns : List ℕ) (a b : List LineEntry) → taken ns (a ++ b) ≡ taken ns a ++ taken ns b
+taken-append : (ns : List ℕ) (a b : List LineEntry) → stolen_tests ns (a ++ b) ≡ stolen_tests ns a ++ stolen_tests ns b
 taken-append ns [] b = refl
 taken-append ns (Mark ∷ a) b = taken-append ns a b
 taken-append ns (Test n ∷ a) b = go (is_among n ns) (taken-append ns a b)
   where
-    go : (t : Bool) → taken ns (a ++ b) ≡ taken ns a ++ taken ns b → (if t then n ∷ taken ns (a ++ b) else taken ns (a ++ b)) ≡ (if t then n ∷ taken ns a else taken ns a) ++ taken ns b
+    go : (t : Bool) → stolen_tests ns (a ++ b) ≡ stolen_tests ns a ++ stolen_tests ns b → (if t then n ∷ stolen_tests ns (a ++ b) else stolen_tests ns (a ++ b)) ≡ (if t then n ∷ stolen_tests ns a else stolen_tests ns a) ++ stolen_tests ns b
     go true e = ap (λ (l : List ℕ). n ∷ l) e
     go false e = e
 
@@ -53,7 +53,7 @@ pub out_mark : (ns : List ℕ) (before : List Standing) (queue : List LineEntry)
 out_mark ns before queue st rest back l m e h = record {
   done = h.done ++ Mark ∷ [];
   queue_is = h.queue_is ∙ one_more h.done Mark rest;
-  back_is = h.back_is ∙ sym (taken-append ns h.done (Mark ∷ []) ∙ no_more (taken ns h.done));
+  back_is = h.back_is ∙ sym (taken-append ns h.done (Mark ∷ []) ∙ no_more (stolen_tests ns h.done));
   left_is = e ∙ ap (λ (x : List LineEntry). x ++ Mark ∷ []) h.left_is ∙ sym (kept-append ns h.done (Mark ∷ []));
   size = h.size;
   freed = λ n lt. h.freed n lt ∙ ap (λ (v : Bool). freed_at (v && is_among n ns) (slice_index_or before n Free)) (sym (has_test-append n h.done (Mark ∷ []) ∙ or_none (has_test n h.done)));
@@ -66,7 +66,7 @@ pub out_kept : (ns : List ℕ) (before : List Standing) (queue : List LineEntry)
 out_kept ns before queue st k rest back l m out e h = record {
   done = h.done ++ Test k ∷ [];
   queue_is = h.queue_is ∙ one_more h.done (Test k) rest;
-  back_is = h.back_is ∙ sym (taken-append ns h.done (Test k ∷ []) ∙ ap (λ (v : Bool). taken ns h.done ++ (if v then k ∷ [] else [])) out ∙ no_more (taken ns h.done));
+  back_is = h.back_is ∙ sym (taken-append ns h.done (Test k ∷ []) ∙ ap (λ (v : Bool). stolen_tests ns h.done ++ (if v then k ∷ [] else [])) out ∙ no_more (stolen_tests ns h.done));
   left_is = e ∙ ap (λ (x : List LineEntry). x ++ Test k ∷ []) h.left_is ∙ sym (kept-append ns h.done (Test k ∷ []) ∙ ap (λ (v : Bool). kept ns h.done ++ (if v then [] else Test k ∷ [])) out);
   size = h.size;
   freed = λ n lt. h.freed n lt ∙ ap (λ (v : Bool). freed_at v (slice_index_or before n Free)) (same n (k == n) refl);
@@ -85,7 +85,7 @@ pub out_taken : (ns : List ℕ) (before : List Standing) (queue : List LineEntry
 out_taken ns before queue st r k rest back b l in_ e s h = record {
   done = h.done ++ Test k ∷ [];
   queue_is = h.queue_is ∙ one_more h.done (Test k) rest;
-  back_is = e ∙ ap (λ (x : List ℕ). x ++ k ∷ []) h.back_is ∙ sym (taken-append ns h.done (Test k ∷ []) ∙ ap (λ (v : Bool). taken ns h.done ++ (if v then k ∷ [] else [])) in_);
+  back_is = e ∙ ap (λ (x : List ℕ). x ++ k ∷ []) h.back_is ∙ sym (taken-append ns h.done (Test k ∷ []) ∙ ap (λ (v : Bool). stolen_tests ns h.done ++ (if v then k ∷ [] else [])) in_);
   left_is = h.left_is ∙ sym (kept-append ns h.done (Test k ∷ []) ∙ ap (λ (v : Bool). kept ns h.done ++ (if v then [] else Test k ∷ [])) in_ ∙ no_more (kept ns h.done));
   size = ap length s ∙ length-set st k Free ∙ h.size;
   freed = λ n lt. ap (λ (x : List Standing). slice_index_or x n Free) s ∙ go n lt (k == n) refl;
@@ -245,7 +245,7 @@ has_kept n ns (Test m ∷ q) = step (m == n) refl (is_among m ns) refl (has_kept
     step false z true y h = h
     step false z false y h = ap (λ (v : Bool). v || has_test n (kept ns q)) z ∙ h
 
-pub kept_stands : (ns : List ℕ) (before after : List Standing) (preceding q left : List LineEntry) (back : List ℕ) → TakenOut ns before q after [] back left → EachStandsAt before preceding q → once (preceding ++ q) ≡ true → (EachStandsAt after preceding left) × (back ≡ taken ns q) × (left ≡ kept ns q)
+pub kept_stands : (ns : List ℕ) (before after : List Standing) (preceding q left : List LineEntry) (back : List ℕ) → TakenOut ns before q after [] back left → EachStandsAt before preceding q → once (preceding ++ q) ≡ true → (EachStandsAt after preceding left) × (back ≡ stolen_tests ns q) × (left ≡ kept ns q)
 kept_stands ns before after preceding q left back h st o =
     let all : q ≡ h.done = h.queue_is ∙ no_more h.done in
     let is_left : left ≡ kept ns q = h.left_is ∙ ap (kept ns) (sym all) in (
@@ -255,7 +255,7 @@ kept_stands ns before after preceding q left back h st o =
             h.freed n lt' ∙ ap (λ (l : List LineEntry). freed_at (has_test n l && is_among n ns) (slice_index_or before n Free)) (sym all) ∙ ap (freed_at (has_test n q && is_among n ns)) (st.at n lt')
             ∙ mixed (has_test n preceding) (has_test n q) (is_among n ns) (once_apart n preceding q o) ∙ ap (standing_by (has_test n preceding)) (sym (ap (has_test n) is_left ∙ has_kept n ns q));
       },
-      h.back_is ∙ ap (taken ns) (sym all),
+      h.back_is ∙ ap (stolen_tests ns) (sym all),
       is_left,
     )
   where

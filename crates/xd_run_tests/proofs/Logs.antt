@@ -18,7 +18,7 @@ use Rattle.xd_run_tests.specs.declared.ask.Ask.{Ask}
 use Rattle.xd_run_tests.specs.declared.ask.Ask.TheVariants.{Tell, CloseLog, End}
 use Rattle.xd_run_tests.specs.declared.input.Input.{Input}
 use Rattle.xd_run_tests.specs.declared.input.Input.TheVariants as input
-use Rattle.xd_run_tests.specs.Line.{FunctionCall, left, front, queue, running_test, head_test, number_of_log, can_give, can_ask, all_queued, kept, taken}
+use Rattle.xd_run_tests.specs.Line.{FunctionCall, left, front, queue, running_test, head_test, number_of_log, can_give, can_ask, all_queued, kept, stolen_tests}
 use Rattle.xd_run_tests.specs.Turns.{CallTurn, call_turn_of, answered, answered_in, over, ended_early, ending_text, asking, finished, test_started, has_log, too_many_channels, moved_on, line_settled, given, stolen, stolen_if, told, item_heard_in, item_heard, all_heard, serving_suite, collected_in, receiving_ended_in, suite_refused_in, piece_asks, put_out, output_fed, told_done, done_of}
 use Rattle.xd_run_tests.specs.History.{Given, call_after, turn_after}
 use Rattle.xd_run_tests.specs.Logs.{Logs, begun_tests, logs_of, LogSteps, OneLog}
@@ -101,8 +101,8 @@ back_logged room l t ns w = record { steps = more_steps room t.asks (Tell (Back 
 stolen_logged : (room : Bool) (l : Logs) (ns : List ℕ) (t : CallTurn) → Logged room l t → Logged room l (stolen_if ns t)
 stolen_logged room l ns t w = ask (can_ask t.call.size [] ns)
   where
-    go : (v : Bool) → Logged room l (if v then asking (Tell (Back (taken ns (queue t.call))) ∷ []) (record t { call = record (t.call) { line = front t.call ++ kept ns (queue t.call) } }) else asking (Tell (Back []) ∷ []) t)
-    go true = back_logged room l (record t { call = record (t.call) { line = front t.call ++ kept ns (queue t.call) } }) (taken ns (queue t.call)) (record { steps = w.steps; awaits = w.awaits })
+    go : (v : Bool) → Logged room l (if v then asking (Tell (Back (stolen_tests ns (queue t.call))) ∷ []) (record t { call = record (t.call) { line = front t.call ++ kept ns (queue t.call) } }) else asking (Tell (Back []) ∷ []) t)
+    go true = back_logged room l (record t { call = record (t.call) { line = front t.call ++ kept ns (queue t.call) } }) (stolen_tests ns (queue t.call)) (record { steps = w.steps; awaits = w.awaits })
     go false = back_logged room l t [] w
 
     ask : (v : Bool) → Logged room l (if v then stolen ns t else ended_early BadCommand t)

@@ -15,7 +15,7 @@ use Rattle.xd_run_tests.specs.declared.ask.Ask.{Ask}
 use Rattle.xd_run_tests.specs.declared.ask.Ask.TheVariants.{Tell}
 use Rattle.xd_run_tests.specs.Line.{FunctionCall, has_test, left, number_of_log, head_test, can_give}
 use Rattle.xd_run_tests.specs.Turns.{CallTurn, moved_on, test_started, has_log, asking, over, too_many_channels}
-use Rattle.xd_run_tests.specs.Stands.{EachStandsAt, IsCut, IsCall, IsHeld, IsLog, Stands, HasActed, Appends, standing_by, once, passing_some, running_places, test_of_running}
+use Rattle.xd_run_tests.specs.Stands.{EachStandsAt, IsCut, IsCall, IsHeld, IsLog, IsCallTurn, HasActed, Appends, standing_by, once, passing_some, running_places, test_of_running}
 use Rattle.xd_run_tests.proofs.Once.{once_given}
 use Rattle.xd_run_tests.proofs.Cut.{cut_next, cut_start, cut_left, has_test-append}
 
@@ -57,8 +57,8 @@ advanced s r c serves idle no_next q none st o h =
 pub left_is : (s : RunTests) (c : FunctionCall) → c.phase ≡ Serving → s.running ≡ None → IsCall s c → left c ≡ option_to_list s.next ++ s.queue.items
 left_is s c serves idle h = cut_left None s.next s.queue.items s.stands.items c.line c.ended (cut_at c.line c.ended (h.cut serves) idle refl refl refl)
 
-pub moved_at : (room : Bool) (t : CallTurn) (s : RunTests) (a : Acts) (l : List LineEntry) → left t.call ≡ l → Stands s a (moved_on room l t) → Stands s a (moved_on room (left t.call) t)
-moved_at room t s a l e h = subst (λ (x : List LineEntry). Stands s a (moved_on room x t)) (sym e) h
+pub moved_at : (room : Bool) (t : CallTurn) (s : RunTests) (a : Acts) (l : List LineEntry) → left t.call ≡ l → IsCallTurn s a (moved_on room l t) → IsCallTurn s a (moved_on room (left t.call) t)
+moved_at room t s a l e h = subst (λ (x : List LineEntry). IsCallTurn s a (moved_on room x t)) (sym e) h
 
 pub idle_log : (run : Option Running) (next ended : ℕ) → run ≡ None → IsLog run next ended → next ≡ number_of_log ended
 idle_log run next ended e h = let g = subst (λ (x : Option Running). IsLog x next ended) e h in g
@@ -99,8 +99,8 @@ pub asked : (a b : Acts) (t : CallTurn) (x : Ask) → b.asks.items ≡ a.asks.it
 asked a b t x e r h = record { asks_are = e ∙ ap (λ (l : List Ask). l ++ x ∷ []) h.asks_are; run_is = r ∙ h.run_is }
 
 -- where a test starts
-pub started_if : (room : Bool) (t : CallTurn) (n : ℕ) (s : RunTests) (a : Acts) → room ≡ true → number_of_log t.call.ended ≤ 2147483647 → Stands s a (test_started n t) → Stands s a (if room && has_log t.call.ended then test_started n t else over (Some too_many_channels) t)
-started_if room t n s a r le h = subst (λ (v : Bool). Stands s a (if v then test_started n t else over (Some too_many_channels) t)) (sym (both room (has_log t.call.ended) r (le-leb _ _ le))) h
+pub started_if : (room : Bool) (t : CallTurn) (n : ℕ) (s : RunTests) (a : Acts) → room ≡ true → number_of_log t.call.ended ≤ 2147483647 → IsCallTurn s a (test_started n t) → IsCallTurn s a (if room && has_log t.call.ended then test_started n t else over (Some too_many_channels) t)
+started_if room t n s a r le h = subst (λ (v : Bool). IsCallTurn s a (if v then test_started n t else over (Some too_many_channels) t)) (sym (both room (has_log t.call.ended) r (le-leb _ _ le))) h
   where
     both : (a b : Bool) → a ≡ true → b ≡ true → (a && b) ≡ true
     both a b e f = rw (e, f)

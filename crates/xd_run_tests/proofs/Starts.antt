@@ -20,7 +20,7 @@ use Rattle.xd_run_tests.specs.declared.ask.Ask.{Ask}
 use Rattle.xd_run_tests.specs.declared.ask.Ask.TheVariants.{Tell}
 use Rattle.xd_run_tests.specs.declared.input.Input.{Input}
 use Rattle.xd_run_tests.specs.declared.input.Input.TheVariants as input
-use Rattle.xd_run_tests.specs.Line.{FunctionCall, left, front, queue, passed, running_test, head_test, has_test, is_among, can_give, can_ask, all_queued, kept, taken}
+use Rattle.xd_run_tests.specs.Line.{FunctionCall, left, front, queue, passed, running_test, head_test, has_test, is_among, can_give, can_ask, all_queued, kept, stolen_tests}
 use Rattle.xd_run_tests.specs.Turns.{CallTurn, call_turn_of, answered, over, ended_early, ending_text, asking, finished, test_started, has_log, too_many_channels, moved_on, line_settled, given, stolen, stolen_if, told, item_heard_in, item_heard, all_heard, collected_in, receiving_ended_in, suite_refused_in, put_out, output_fed, told_done, done_in, done_of, call_stopped}
 use Rattle.xd_run_tests.specs.History.{Given, call_after, turn_after, started_tests, no_number_twice}
 use Rattle.xd_run_tests.specs.Stands.{once}
@@ -212,8 +212,8 @@ taken_begun s ns t serves b =
 stolen_begun : (s : List ℕ) (ns : List ℕ) (t : CallTurn) → (t.call.phase ≡ Awaiting → ⊥) → Begun s t → Begun s (stolen_if ns t)
 stolen_begun s ns t serves b = ask (can_ask t.call.size [] ns)
   where
-    go : (v : Bool) → Begun s (if v then asking (Tell (Back (taken ns (queue t.call))) ∷ []) (record t { call = record (t.call) { line = front t.call ++ kept ns (queue t.call) } }) else asking (Tell (Back []) ∷ []) t)
-    go true = asking_begun s (record t { call = record (t.call) { line = front t.call ++ kept ns (queue t.call) } }) (Tell (Back (taken ns (queue t.call))) ∷ []) (taken_begun s ns t serves b)
+    go : (v : Bool) → Begun s (if v then asking (Tell (Back (stolen_tests ns (queue t.call))) ∷ []) (record t { call = record (t.call) { line = front t.call ++ kept ns (queue t.call) } }) else asking (Tell (Back []) ∷ []) t)
+    go true = asking_begun s (record t { call = record (t.call) { line = front t.call ++ kept ns (queue t.call) } }) (Tell (Back (stolen_tests ns (queue t.call))) ∷ []) (taken_begun s ns t serves b)
     go false = asking_begun s t (Tell (Back []) ∷ []) b
 
     ask : (v : Bool) → Begun s (if v then stolen ns t else ended_early BadCommand t)

@@ -16,7 +16,7 @@ use Rattle.xd_run_tests.specs.declared.ask.Ask.{Ask}
 use Rattle.xd_run_tests.specs.declared.ask.Ask.TheVariants.{Tell}
 use Rattle.xd_run_tests.specs.declared.run_tests.steal.Asked.{Asked}
 use Rattle.xd_run_tests.specs.declared.run_tests.steal.Asked.TheVariants.{Missing, Marked}
-use Rattle.xd_run_tests.specs.Line.{FunctionCall, front, queue, kept, taken, all_queued, can_ask}
+use Rattle.xd_run_tests.specs.Line.{FunctionCall, front, queue, kept, stolen_tests, all_queued, can_ask}
 use Rattle.xd_run_tests.specs.Turns.{CallTurn, stolen_if, asking}
 use Rattle.xd_run_tests.specs.Stands.{AreMarked, once, IsCut, IsCall, IsReady, TakenOut, Asks, IsAsked, all_queued_at, running_places, test_of_running}
 use Rattle.xd_run_tests.proofs.Cut.{cut_left}
@@ -77,7 +77,7 @@ pub asks_can : (s : RunTests) (c : FunctionCall) (ns : List ℕ) (b : Bool) → 
 asks_can s c ns b h e = ap (λ (n : ℕ). can_ask n [] ns) (sym h.held.size_is) ∙ e
 
 pub stolen_call : (s r : RunTests) (c : FunctionCall) (ns back : List ℕ) → c.phase ≡ Serving → IsReady s c → r ≡ record s { queue = r.queue; stands = r.stands } → TakenOut ns s.stands.items s.queue.items r.stands.items [] back r.queue.items → IsCall s c
-    → (IsCall r (record c { line = front c ++ kept ns (queue c) })) × (back ≡ taken ns (queue c)) × (r.next ≡ None → r.queue.items ≡ [])
+    → (IsCall r (record c { line = front c ++ kept ns (queue c) })) × (back ≡ stolen_tests ns (queue c)) × (r.next ≡ None → r.queue.items ≡ [])
 stolen_call s r c ns back serves ready o out h =
     let old = h.cut serves in
     let run : r.running ≡ s.running = ap (λ (x : RunTests). x.running) o in
@@ -101,7 +101,7 @@ stolen_call s r c ns back serves ready o out h =
         };
         cut = λ _. cut_at (front c ++ kept ns (queue c)) c.ended new (sym run) (sym nx) refl refl;
       },
-      ok.1 ∙ ap (taken ns) (sym both.1),
+      ok.1 ∙ ap (stolen_tests ns) (sym both.1),
       λ z. ok.2 ∙ ap (kept ns) (ready serves (sym nx ∙ z)),
     )
   where
@@ -118,7 +118,7 @@ asked_missing st ns a e h = let g = subst (IsAsked st ns) e h in g
 pub missing_turn : (t : CallTurn) (ns : List ℕ) → can_ask t.call.size [] ns ≡ true → all_queued (queue t.call) ns ≡ false → stolen_if ns t ≡ asking (Tell (Back []) ∷ []) t
 missing_turn t ns e f = rw (e, f) refl
 
-pub marked_turn : (t : CallTurn) (ns : List ℕ) → can_ask t.call.size [] ns ≡ true → all_queued (queue t.call) ns ≡ true → stolen_if ns t ≡ asking (Tell (Back (taken ns (queue t.call))) ∷ []) (record t { call = record (t.call) { line = front t.call ++ kept ns (queue t.call) } })
+pub marked_turn : (t : CallTurn) (ns : List ℕ) → can_ask t.call.size [] ns ≡ true → all_queued (queue t.call) ns ≡ true → stolen_if ns t ≡ asking (Tell (Back (stolen_tests ns (queue t.call))) ∷ []) (record t { call = record (t.call) { line = front t.call ++ kept ns (queue t.call) } })
 marked_turn t ns e f = rw (e, f) refl
 
 pub told_back : (old new before : List Ask) (back ns : List ℕ) → back ≡ ns → old ≡ before → new ≡ old ++ Tell (Back back) ∷ [] → new ≡ before ++ Tell (Back ns) ∷ []

@@ -18,9 +18,9 @@ use Rattle.xd_run_tests.specs.declared.ask.Ask.{Ask}
 use Rattle.xd_run_tests.specs.declared.ask.Ask.TheVariants.{Tell}
 use Rattle.xd_run_tests.specs.declared.input.Input.{Input}
 use Rattle.xd_run_tests.specs.declared.input.Input.TheVariants as input
-use Rattle.xd_run_tests.specs.Line.{FunctionCall, left, front, queue, passed, running_test, head_test, has_test, is_among, can_give, can_ask, all_queued, kept, taken}
+use Rattle.xd_run_tests.specs.Line.{FunctionCall, left, front, queue, passed, running_test, head_test, has_test, is_among, can_give, can_ask, all_queued, kept, stolen_tests}
 use Rattle.xd_run_tests.specs.Turns.{CallTurn, call_turn_of, answered, over, ended_early, ending_text, asking, test_started, has_log, too_many_channels, moved_on, line_settled, given, stolen, stolen_if, told, item_heard_in, item_heard, all_heard, collected_in, receiving_ended_in, suite_refused_in, put_out, output_fed, told_done, done_of}
-use Rattle.xd_run_tests.specs.History.{Given, call_after, turn_after, size_opened, size_after, KnownTests}
+use Rattle.xd_run_tests.specs.History.{Given, call_after, turn_after, size_opened, size_after, CallKnowsTests}
 use Rattle.xd_run_tests.proofs.Once.{and_first, and_last, and_both}
 
 abbrev within : ℕ → List LineEntry → Bool
@@ -139,8 +139,8 @@ asking_within k t asks w = record { size_is = w.size_is; line_in = w.line_in; ru
 stolen_within : (k : ℕ) (ns : List ℕ) (t : CallTurn) → Within k t → Within k (stolen_if ns t)
 stolen_within k ns t w = ask (can_ask t.call.size [] ns)
   where
-    go : (v : Bool) → Within k (if v then asking (Tell (Back (taken ns (queue t.call))) ∷ []) (record t { call = record (t.call) { line = front t.call ++ kept ns (queue t.call) } }) else asking (Tell (Back []) ∷ []) t)
-    go true = asking_within k (record t { call = record (t.call) { line = front t.call ++ kept ns (queue t.call) } }) (Tell (Back (taken ns (queue t.call))) ∷ []) (taken_within k ns t w)
+    go : (v : Bool) → Within k (if v then asking (Tell (Back (stolen_tests ns (queue t.call))) ∷ []) (record t { call = record (t.call) { line = front t.call ++ kept ns (queue t.call) } }) else asking (Tell (Back []) ∷ []) t)
+    go true = asking_within k (record t { call = record (t.call) { line = front t.call ++ kept ns (queue t.call) } }) (Tell (Back (stolen_tests ns (queue t.call))) ∷ []) (taken_within k ns t w)
     go false = asking_within k t (Tell (Back []) ∷ []) w
 
     ask : (v : Bool) → Within k (if v then stolen ns t else ended_early BadCommand t)
@@ -231,7 +231,7 @@ running_within c n w e = go c.running e
 run_within : (size n : ℕ) (run : Option ℕ) → is_below size run ≡ true → run ≡ Some n → n < size
 run_within size n run w e = ltb-true n size (ap (is_below size) (sym e) ∙ w)
 
-pub all_known : KnownTests
+pub all_known : CallKnowsTests
 all_known = record {
   size = λ h g. (within_next h g).size_is;
   runs = λ h n e. running_within (call_after h) n (within_after h).line_in e;

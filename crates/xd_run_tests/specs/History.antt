@@ -65,12 +65,12 @@ size_after p (input.Done outcome ms) n = n
 size_after p input.Stop n = n
 
 -- Whatever comes, a test that runs or that is started is one of the suite.
-pub record KnownTests : Type 0 where
+pub record CallKnowsTests : Type 0 where
   pub size : (h : List Given) (g : Given) → (turn_after h g).call.size ≡ size_after (call_after h).phase g.input (call_after h).size
   pub runs : (h : List Given) (n : ℕ) → running_test (call_after h) ≡ Some n → n < (call_after h).size
   pub starts : (h : List Given) (g : Given) (n : ℕ) → (turn_after h g).run ≡ Some n → n < (turn_after h g).call.size
 
 -- the parts are those of the call after these inputs
-pub record StandsFor (s : RunTests) (h : List Given) : Type 0 where
+pub record StandsForGiven (s : RunTests) (h : List Given) : Type 0 where
   pub call : IsCall s (call_after h)
   pub ready : IsReady s (call_after h)

@@ -94,7 +94,7 @@ kept ns [] = []
 kept ns (p ∷ ps) = if is_asked ns p then kept ns ps else p ∷ kept ns ps
 
 -- the tests that a steal takes from a queue, in the order of the queue
-abbrev pub taken : List ℕ → List LineEntry → List ℕ
-taken ns [] = []
-taken ns (Test n ∷ ps) = if is_among n ns then n ∷ taken ns ps else taken ns ps
-taken ns (Mark ∷ ps) = taken ns ps
+abbrev pub stolen_tests : List ℕ → List LineEntry → List ℕ
+stolen_tests ns [] = []
+stolen_tests ns (Test n ∷ ps) = if is_among n ns then n ∷ stolen_tests ns ps else stolen_tests ns ps
+stolen_tests ns (Mark ∷ ps) = stolen_tests ns ps

@@ -10,7 +10,7 @@ use Rattle.xd_run_tests.specs.declared.ask.Acts.{Acts}
 use Rattle.xd_run_tests.specs.declared.run_tests.steal.Asked.{Asked}
 use Rattle.xd_run_tests.specs.declared.run_tests.steal.Asked.TheVariants.{Bad, Missing, Marked}
 use Rattle.xd_run_tests.specs.declared.run_tests.RunTests.{RunTests}
-use Rattle.xd_run_tests.specs.Line.{FunctionCall, running_test, number_of_log, has_test, can_give, can_ask, is_among, taken, kept}
+use Rattle.xd_run_tests.specs.Line.{FunctionCall, running_test, number_of_log, has_test, can_give, can_ask, is_among, stolen_tests, kept}
 use Rattle.xd_run_tests.specs.Turns.{CallTurn}
 
 -- the running test as an entry of the line, if one runs
@@ -103,7 +103,7 @@ freed_at b s = if b then Free else s
 pub record TakenOut (ns : List ℕ) (before : List Standing) (queue : List LineEntry) (after : List Standing) (rest : List LineEntry) (back : List ℕ) (left : List LineEntry) : Type 0 where
   pub done : List LineEntry
   pub queue_is : queue ≡ done ++ rest
-  pub back_is : back ≡ taken ns done
+  pub back_is : back ≡ stolen_tests ns done
   pub left_is : left ≡ kept ns done
   pub size : length after ≡ length before
   pub freed : (n : ℕ) → n < length before → slice_index_or after n Free ≡ freed_at (has_test n done && is_among n ns) (slice_index_or before n Free)
@@ -164,7 +164,7 @@ pub record Moves (s : RunTests) (a : Acts) (t : CallTurn) : Type 0 where
   pub acted : HasActed a t
 
 -- the parts and the acts so far are those of a turn
-pub record Stands (s : RunTests) (a : Acts) (t : CallTurn) : Type 0 where
+pub record IsCallTurn (s : RunTests) (a : Acts) (t : CallTurn) : Type 0 where
   pub call : IsCall s t.call
   pub ready : IsReady s t.call
   pub acted : HasActed a t

@@ -19,7 +19,7 @@ use Rattle.xd_run_tests.specs.declared.ask.Ask.{Ask}
 use Rattle.xd_run_tests.specs.declared.ask.Ask.TheVariants.{Tell, Piece, CloseLog, End}
 use Rattle.xd_run_tests.specs.declared.input.Input.{Input}
 use Rattle.xd_run_tests.specs.declared.input.Input.TheVariants as input
-use Rattle.xd_run_tests.specs.Line.{FunctionCall, left, front, queue, running_test, number_of_log, can_give, can_ask, all_queued, kept, taken}
+use Rattle.xd_run_tests.specs.Line.{FunctionCall, left, front, queue, running_test, number_of_log, can_give, can_ask, all_queued, kept, stolen_tests}
 
 -- an input's effect so far: what the side is asked, and a test to start
 pub record CallTurn : Type 0 where
@@ -88,7 +88,7 @@ given room ns t =
 abbrev pub stolen : List ℕ → CallTurn → CallTurn
 stolen ns t =
     if all_queued (queue t.call) ns
-    then asking (Tell (Back (taken ns (queue t.call))) ∷ [])
+    then asking (Tell (Back (stolen_tests ns (queue t.call))) ∷ [])
     (record t { call = record (t.call) { line = front t.call ++ kept ns (queue t.call) } })
     else asking (Tell (Back []) ∷ []) t
 

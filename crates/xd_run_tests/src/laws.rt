@@ -1,5 +1,5 @@
 // Facts about the definitions.
-ghost use Rattle.xd_run_tests.specs.History.{KnownTests, StartsOnce};
+ghost use Rattle.xd_run_tests.specs.History.{CallKnowsTests, StartsOnce};
 ghost use Rattle.xd_run_tests.specs.Logs.{OneLog};
 ghost use Rattle.xd_run_tests.specs.Rows.{StealRow};
 
@@ -16,7 +16,7 @@ pub fn a_test_starts_once()
 /// Whatever comes, a test that runs or that is started is one of the suite, whose size is that of the one collection that
 /// was sent.
 pub fn a_test_is_of_the_suite()
-    ensures { KnownTests }
+    ensures { CallKnowsTests }
 {}
 
 /// Whatever comes, one log is open at a time: it is that of the running test, and its pieces and its close have the number

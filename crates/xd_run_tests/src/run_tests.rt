@@ -44,12 +44,12 @@ pub struct RunTests {
 impl RunTests {
     ghost use Rattle.xd_run_tests.specs.Line.{FunctionCall, running_test};
     ghost use Rattle.xd_run_tests.specs.Turns.{CallTurn, answered_in, answered, call_turn_of, CanTake};
-    ghost use Rattle.xd_run_tests.specs.Stands.{Stands, IsReady, IsCall, test_of_running};
-    ghost use Rattle.xd_run_tests.specs.History.{Given, StandsFor, call_after, turn_after};
+    ghost use Rattle.xd_run_tests.specs.Stands.{IsCallTurn, IsReady, IsCall, test_of_running};
+    ghost use Rattle.xd_run_tests.specs.History.{Given, StandsForGiven, call_after, turn_after};
 
     /// A call to which nothing has come yet.
     pub fn new(alloc: Global) -> RunTests
-        ensures history { StandsFor result [] }
+        ensures history { StandsForGiven result [] }
     {
         RunTests {
             alloc,
@@ -67,7 +67,7 @@ impl RunTests {
 
     /// The test that runs.
     pub fn runs(&self) -> Option<u32>
-        ensures { (h : List Given) → StandsFor self.now h → result ≡ running_test (call_after h) }
+        ensures { (h : List Given) → StandsForGiven self.now h → result ≡ running_test (call_after h) }
     {
         self.running.map(|running| running.test)
     }
@@ -77,14 +77,14 @@ impl RunTests {
     pub fn step(&mut self, input: Input, room: bool) -> Result<Acts, OutOfMemory>
         // A suite's tests can be counted.
         requires { CanTake input }
-        ensures asks { (h : List Given) → StandsFor self.old h →
+        ensures asks { (h : List Given) → StandsForGiven self.old h →
             IfOk result (λ acts. acts.asks.items ≡ (turn_after h
             (record { input = input; room = room })).asks) }
-        ensures run { (h : List Given) → StandsFor self.old h →
+        ensures run { (h : List Given) → StandsForGiven self.old h →
             IfOk result (λ acts. acts.run ≡ (turn_after h
             (record { input = input; room = room })).run) }
-        ensures history { (h : List Given) → StandsFor self.old h →
-            OnOk result (StandsFor self.new (record { input = input; room = room } ∷ h)) }
+        ensures history { (h : List Given) → StandsForGiven self.old h →
+            OnOk result (StandsForGiven self.new (record { input = input; room = room } ∷ h)) }
     {
         let acts = self.answer(input, room)?;
         Ok(acts)
@@ -93,7 +93,7 @@ impl RunTests {
     fn answer(&mut self, input: Input, room: bool) -> Result<Acts, OutOfMemory>
         requires { CanTake input }
         ensures { (c : FunctionCall) → IsCall self.old c → IsReady self.old c →
-            IfOk result (λ acts. Stands self.new acts (answered room input (call_turn_of c))) }
+            IfOk result (λ acts. IsCallTurn self.new acts (answered room input (call_turn_of c))) }
     {
         let mut acts = Acts {
             asks: Vec::new(self.alloc),
@@ -105,8 +105,8 @@ impl RunTests {
 
     fn take(&mut self, acts: &mut Acts, input: Input, room: bool) -> Result<(), OutOfMemory>
         requires { CanTake input }
-        ensures { (t : CallTurn) → Stands self.old acts.old t →
-            OnOk result (Stands self.new acts.new
+        ensures { (t : CallTurn) → IsCallTurn self.old acts.old t →
+            OnOk result (IsCallTurn self.new acts.new
             (answered_in self.old.phase (test_of_running self.old.running) room input t)) }
     {
         match input {

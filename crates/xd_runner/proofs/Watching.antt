@@ -11,7 +11,7 @@ use Rattle.xd_journal.specs.declared.entry.Outcome.TheVariants.{Failed}
 use Rattle.xd_reader.specs.declared.news.LinkNews.{LinkNews}
 use Rattle.xd_reader.specs.declared.news.LinkNews.TheVariants.{Output, ChildDone}
 use Rattle.xd_child.specs.Ending.{Waited, fault_count, fate_so, outcome_of}
-use Rattle.xd_runner.specs.Orders.{IsPiece, ProgramsSeen, seen}
+use Rattle.xd_runner.specs.Orders.{IsPiece, ProgramsSeen, programs_seen}
 use Rattle.xd_runner.specs.Programs.{CameTo, read_so}
 use Rattle.xd_runner.specs.Running.{PutsOutput, HeardPart, RunsOne, RunsPart, RunsTo, Waits, Watches, WatchesPart}
 use Rattle.xd_child.proofs.Waiting.{faults_to_end, still_to_end}
@@ -103,7 +103,7 @@ waits_for k place whole output outcome old mid new e c w = record {
 }
 
 pub watches : (k place : ℕ) (whole : Bool) (outcome : Outcome) (old mid new : Option (List ChildRun)) (first read now : ℕ) (before after : List LinkNews) → k ≡ place → PutsOutput whole place old mid before after → Counted whole first read → Waited whole k outcome mid new
-    → read ≤ now → (whole ≡ true → RoseBy (fault_count outcome) read now) → (fault_count outcome ≡ 0 → now ≡ read) → Watches outcome place (seen old first) (seen new now) before after
+    → read ≤ now → (whole ≡ true → RoseBy (fault_count outcome) read now) → (fault_count outcome ≡ 0 → now ≡ read) → Watches outcome place (programs_seen old first) (programs_seen new now) before after
 watches k place whole outcome old mid new first read now before after e h count w later rose still = record {
   pieces = h.pieces;
   puts = h.puts;
@@ -115,7 +115,7 @@ watches k place whole outcome old mid new first read now before after e h count 
 }
 
 pub watches_part : (j k place : ℕ) (whole : Bool) (output : List ℕ) (outcome : Outcome) (old mid read new : Option (List ChildRun)) (f0 f1 f2 f3 : ℕ) (before after : List LinkNews) → j ≡ place → k ≡ place → HeardPart place old mid before after → ChangesRun j (read_so whole output) mid read → Waited whole k outcome read new
-    → f0 ≤ f1 → f1 ≤ f2 → f2 ≤ f3 → WatchesPart place (seen old f0) (seen new f3) before after
+    → f0 ≤ f1 → f1 ≤ f2 → f2 ≤ f3 → WatchesPart place (programs_seen old f0) (programs_seen new f3) before after
 watches_part j k place whole output outcome old mid read new f0 f1 f2 f3 before after d e h c w l0 l1 l2 = record {
   pieces = h.pieces;
   puts = h.puts;
@@ -142,7 +142,7 @@ came_to place args output outcome old mid new next added w = by w.whole w.outcom
     by true is c = record { run = with_last w.last (read_so true output (running args)); args_are = refl; output_is = refl; outcome_is = is; added = changed place (λ r. with_last w.last (read_so true output r)) (running args) old mid new next added c }
     by false is c = record { run = with_last w.last (read_so false output (running args)); args_are = refl; output_is = refl; outcome_is = is; added = changed place (λ r. with_last w.last (read_so false output r)) (running args) old mid new next added c }
 
-pub runs_to : (place : ℕ) (outcome : Outcome) (args : List (List ℕ)) (old mid new : Option (List ChildRun)) (f0 f1 f2 : ℕ) (before after : List LinkNews) → IsNext place old → AddsRun (running args) old mid → f1 ≡ f0 → Watches outcome place (seen mid f1) (seen new f2) before after → RunsTo outcome args (seen old f0) (seen new f2) before after
+pub runs_to : (place : ℕ) (outcome : Outcome) (args : List (List ℕ)) (old mid new : Option (List ChildRun)) (f0 f1 f2 : ℕ) (before after : List LinkNews) → IsNext place old → AddsRun (running args) old mid → f1 ≡ f0 → Watches outcome place (programs_seen mid f1) (programs_seen new f2) before after → RunsTo outcome args (programs_seen old f0) (programs_seen new f2) before after
 runs_to place outcome args old mid new f0 f1 f2 before after next added still w = record {
   pieces = w.pieces;
   puts = w.puts;
@@ -153,7 +153,7 @@ runs_to place outcome args old mid new f0 f1 f2 before after next added still w 
   later = subst (λ (n : ℕ). n ≤ f2) still w.later;
 }
 
-pub runs_none : (args : List (List ℕ)) (old new : Option (List ChildRun)) (f0 f1 : ℕ) (before : List LinkNews) → AddsRun (not_started args) old new → Rose f0 f1 → f0 ≤ f1 → RunsTo (Failed (negsuc 1)) args (seen old f0) (seen new f1) before before
+pub runs_none : (args : List (List ℕ)) (old new : Option (List ChildRun)) (f0 f1 : ℕ) (before : List LinkNews) → AddsRun (not_started args) old new → Rose f0 f1 → f0 ≤ f1 → RunsTo (Failed (negsuc 1)) args (programs_seen old f0) (programs_seen new f1) before before
 runs_none args old new f0 f1 before added rose later = record {
   pieces = [];
   puts = sym (append-nil before);
@@ -164,7 +164,7 @@ runs_none args old new f0 f1 before added rose later = record {
   later = later;
 }
 
-pub runs_part : (place : ℕ) (args : List (List ℕ)) (old mid new : Option (List ChildRun)) (f0 f1 f2 : ℕ) (before after : List LinkNews) → IsNext place old → AddsRun (running args) old mid → f1 ≡ f0 → WatchesPart place (seen mid f1) (seen new f2) before after → RunsPart args (seen old f0) (seen new f2) before after
+pub runs_part : (place : ℕ) (args : List (List ℕ)) (old mid new : Option (List ChildRun)) (f0 f1 f2 : ℕ) (before after : List LinkNews) → IsNext place old → AddsRun (running args) old mid → f1 ≡ f0 → WatchesPart place (programs_seen mid f1) (programs_seen new f2) before after → RunsPart args (programs_seen old f0) (programs_seen new f2) before after
 runs_part place args old mid new f0 f1 f2 before after next added still w = record {
   pieces = w.pieces;
   puts = w.puts;
@@ -173,12 +173,12 @@ runs_part place args old mid new f0 f1 f2 before after next added still w = reco
   later = subst (λ (n : ℕ). n ≤ f2) still w.later;
 }
 
-pub runs_never : (args : List (List ℕ)) (old new : Option (List ChildRun)) (f0 f1 : ℕ) (before : List LinkNews) → new ≡ old → f1 ≡ f0 → RunsPart args (seen old f0) (seen new f1) before before
+pub runs_never : (args : List (List ℕ)) (old new : Option (List ChildRun)) (f0 f1 : ℕ) (before : List LinkNews) → new ≡ old → f1 ≡ f0 → RunsPart args (programs_seen old f0) (programs_seen new f1) before before
 runs_never args old new f0 f1 before same still = record {
   pieces = [];
   puts = sym (append-nil before);
   sizes = All-nil IsPiece;
-  left = inl (refl, ap (λ (o : Option (List ChildRun)). seen o f1) same ∙ ap (seen old) still);
+  left = inl (refl, ap (λ (o : Option (List ChildRun)). programs_seen o f1) same ∙ ap (programs_seen old) still);
   later = omega (arith, still);
 }
 

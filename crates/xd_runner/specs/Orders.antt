@@ -59,8 +59,8 @@ pub record ProgramsSeen : Type 0 where
   pub faults : ℕ
 
 -- the programs, of which these starts and this count of faults are seen
-abbrev pub seen : Option (List ChildRun) → ℕ → ProgramsSeen
-seen runs faults = record { runs = runs; faults = faults }
+abbrev pub programs_seen : Option (List ChildRun) → ℕ → ProgramsSeen
+programs_seen runs faults = record { runs = runs; faults = faults }
 
 -- These orders were run one after another, one child for each, and this was put of them.
 pub record Runs (orders : List Order) (told : List ToldOfProgram) (s0 s1 : ProgramsSeen) (before after : List LinkNews) : Type 0 where

@@ -5,7 +5,7 @@ ghost use Rattle.xd_edge.specs.Faults.{Counted};
 ghost use Rattle.xd_post.specs.Mails.{mails};
 ghost use Rattle.xd_post.specs.Post.{put, ring_of_sender};
 ghost use Rattle.xd_reader.specs.declared.news.LinkNews.TheVariants.{Output};
-ghost use Rattle.xd_runner.specs.Orders.{RunsOrders, seen};
+ghost use Rattle.xd_runner.specs.Orders.{RunsOrders, programs_seen};
 ghost use Rattle.xd_runner.specs.Programs.{read_so};
 ghost use Rattle.xd_runner.specs.Running.{PutsOutput, HeardPart, RunsOne, RunsPart, RunsTo, Watches, WatchesPart};
 
@@ -26,8 +26,8 @@ pub fn carry_out<R: Wait, K: Children>(
     sender: &mut Sender<LinkNews>,
 )
     ensures runs { RunsOrders (mails orders.old) (mails orders.new)
-        (seen (K.runs children.old) (K.faults children.old))
-        (seen (K.runs children.new) (K.faults children.new)) (put sender.old) (put sender.new) }
+        (programs_seen (K.runs children.old) (K.faults children.old))
+        (programs_seen (K.runs children.new) (K.faults children.new)) (put sender.old) (put sender.new) }
     ensures ring { ring_of_sender sender.new ≡ ring_of_sender sender.old }
 {
     for _ in rt.forever() {
@@ -53,11 +53,11 @@ fn run_order<R: Wait, K: Children>(
 ) -> Result<(), OutOfMemory>
     requires { 0 < length order.now }
     ensures ran { OnOk result
-        (RunsOne order.now (seen (K.runs children.old) (K.faults children.old))
-        (seen (K.runs children.new) (K.faults children.new)) (put sender.old) (put sender.new)) }
+        (RunsOne order.now (programs_seen (K.runs children.old) (K.faults children.old))
+        (programs_seen (K.runs children.new) (K.faults children.new)) (put sender.old) (put sender.new)) }
     ensures part { OnErr result
-        (RunsPart order.now (seen (K.runs children.old) (K.faults children.old))
-        (seen (K.runs children.new) (K.faults children.new)) (put sender.old) (put sender.new)) }
+        (RunsPart order.now (programs_seen (K.runs children.old) (K.faults children.old))
+        (programs_seen (K.runs children.new) (K.faults children.new)) (put sender.old) (put sender.new)) }
     ensures ring { ring_of_sender sender.new ≡ ring_of_sender sender.old }
 {
     let outcome = run_program(rt, alloc, children, sender, order)?;
@@ -75,11 +75,11 @@ fn run_program<R: Wait, K: Children>(
 ) -> Result<Outcome, OutOfMemory>
     requires { 0 < length order.now }
     ensures ran { IfOk result (λ outcome.
-        RunsTo outcome order.now (seen (K.runs children.old) (K.faults children.old))
-        (seen (K.runs children.new) (K.faults children.new)) (put sender.old) (put sender.new)) }
+        RunsTo outcome order.now (programs_seen (K.runs children.old) (K.faults children.old))
+        (programs_seen (K.runs children.new) (K.faults children.new)) (put sender.old) (put sender.new)) }
     ensures part { OnErr result
-        (RunsPart order.now (seen (K.runs children.old) (K.faults children.old))
-        (seen (K.runs children.new) (K.faults children.new)) (put sender.old) (put sender.new)) }
+        (RunsPart order.now (programs_seen (K.runs children.old) (K.faults children.old))
+        (programs_seen (K.runs children.new) (K.faults children.new)) (put sender.old) (put sender.new)) }
     ensures ring { ring_of_sender sender.new ≡ ring_of_sender sender.old }
 {
     match children.start(alloc, order) {
@@ -98,11 +98,11 @@ fn watch<R: Wait, K: Children>(
     child: K::Child,
 ) -> Result<Outcome, OutOfMemory>
     ensures watched { IfOk result (λ outcome.
-        Watches outcome (K.place child) (seen (K.runs children.old) (K.faults children.old))
-        (seen (K.runs children.new) (K.faults children.new)) (put sender.old) (put sender.new)) }
+        Watches outcome (K.place child) (programs_seen (K.runs children.old) (K.faults children.old))
+        (programs_seen (K.runs children.new) (K.faults children.new)) (put sender.old) (put sender.new)) }
     ensures part { OnErr result
-        (WatchesPart (K.place child) (seen (K.runs children.old) (K.faults children.old))
-        (seen (K.runs children.new) (K.faults children.new)) (put sender.old) (put sender.new)) }
+        (WatchesPart (K.place child) (programs_seen (K.runs children.old) (K.faults children.old))
+        (programs_seen (K.runs children.new) (K.faults children.new)) (put sender.old) (put sender.new)) }
     ensures ring { ring_of_sender sender.new ≡ ring_of_sender sender.old }
 {
     let mut child = child;

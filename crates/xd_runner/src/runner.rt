@@ -2,7 +2,7 @@
 ghost use Rattle.std.specs.Prelude.{◌≡◌};
 ghost use Rattle.xd_post.specs.Mails.{mails};
 ghost use Rattle.xd_post.specs.Post.{put, ring_of_sender};
-ghost use Rattle.xd_runner.specs.Orders.{RunsOrders, seen};
+ghost use Rattle.xd_runner.specs.Orders.{RunsOrders, programs_seen};
 ghost use Rattle.xd_runner.specs.Programs.{AreOver};
 
 use crate::program::carry_out;
@@ -77,14 +77,14 @@ impl<K: Children> Job for Runner<K> {
 
     ghost gives = { λ job out.
         RunsOrders (mails job.orders) (mails out.orders)
-        (seen (K.runs job.children) (K.faults job.children))
-        (seen (K.runs out.children) (K.faults out.children)) (put job.sender) (put out.sender)
+        (programs_seen (K.runs job.children) (K.faults job.children))
+        (programs_seen (K.runs out.children) (K.faults out.children)) (put job.sender) (put out.sender)
         × (ring_of_sender out.sender ≡ ring_of_sender job.sender) };
 
     fn run<R: Wait>(self, rt: &R) -> RunnerEnd<K>
         ensures runs { RunsOrders (mails self.orders) (mails result.orders)
-            (seen (K.runs self.children) (K.faults self.children))
-            (seen (K.runs result.children) (K.faults result.children)) (put self.sender)
+            (programs_seen (K.runs self.children) (K.faults self.children))
+            (programs_seen (K.runs result.children) (K.faults result.children)) (put self.sender)
             (put result.sender) }
         ensures ring { ring_of_sender result.sender ≡ ring_of_sender self.sender }
         ensures over { AreOver (K.runs self.children) (K.runs result.children) }

@@ -14,7 +14,7 @@ use Rattle.xd_ledger.specs.Proper.{IsProper}
 use Rattle.xd_ledger.specs.Meaning.{spent_by}
 use Rattle.xd_ledger.specs.Workers.{begun_at, started}
 use Rattle.std.proofs.lemmas.List.{append-nil}
-use Rattle.xd_run_books.specs.Known.{Known, known_of}
+use Rattle.xd_run_books.specs.Known.{Known, known_plan}
 use Rattle.xd_rules.specs.Rules.{At, InStep}
 use Rattle.xd_session.specs.Stands.{CanBegin}
 
@@ -48,10 +48,10 @@ starts-spend w zero = refl
 starts-spend w (suc n) = starts-spend (w + 1) n
 
 begun-at : (settings : Settings) (n : ℕ) (b : Books) (stands : Plan → Type 0) → stands (no_one settings).plan → b ≡ (after_entries (no_one settings) (starts_from 0 n)).books
-    → At (state_at settings (starts_from 0 n)) b (known_of (no_one settings).plan) stands
+    → At (state_at settings (starts_from 0 n)) b (known_plan (no_one settings).plan) stands
 begun-at settings n b stands f e =
     let k = starts-moved settings 0 n [] in
-    subst (λ v. At v b (known_of (no_one settings).plan) stands) (sym (ap settled k)) (record { books_are = e ∙ ap (λ (s : State). s.books) k; known_is = refl; stands_for = λ q. f })
+    subst (λ v. At v b (known_plan (no_one settings).plan) stands) (sym (ap settled k)) (record { books_are = e ∙ ap (λ (s : State). s.books) k; known_is = refl; stands_for = λ q. f })
 
 pub begun-proper : (settings : Settings) → CanBegin settings → IsProper settings []
 begun-proper settings c = record {
@@ -62,7 +62,7 @@ begun-proper settings c = record {
   follow = refl;
 }
 
-pub begun-step : (settings kept : Settings) (entries : List Entry) (b : Books) (k : Known) (stands : Plan → Type 0) → kept ≡ settings → k ≡ known_of (no_one settings).plan → CanBegin settings → stands (no_one settings).plan → b ≡ (after_entries (no_one settings) (starts_from 0 settings.workers)).books
+pub begun-step : (settings kept : Settings) (entries : List Entry) (b : Books) (k : Known) (stands : Plan → Type 0) → kept ≡ settings → k ≡ known_plan (no_one settings).plan → CanBegin settings → stands (no_one settings).plan → b ≡ (after_entries (no_one settings) (starts_from 0 settings.workers)).books
     → entries ≡ starts_from 0 settings.workers → InStep kept entries [] 0 b k stands
 begun-step settings kept entries b kn stands same known c f e k =
     subst (λ s. InStep s entries [] 0 b kn stands) (sym same)

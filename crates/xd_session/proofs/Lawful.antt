@@ -19,13 +19,13 @@ use Rattle.xd_run_books.specs.declared.logs.WorkerLog.{WorkerLog}
 use Rattle.xd_session.specs.Ends.{is_out_fault, last_stop}
 use Rattle.xd_run_books.specs.Known.{Known}
 use Rattle.xd_rules.specs.Rules.{InStep}
-use Rattle.xd_session.specs.Stands.{SessionSeen, StandsFor, state_of}
+use Rattle.xd_session.specs.Stands.{SessionSeen, StandsForNews, state_of}
 use Rattle.xd_session.proofs.Begin.{begun-proper}
 use Rattle.xd_rules.proofs.Closing.{append-nil}
 use Rattle.xd_session.proofs.Ends.{ending-stop, told-so}
 
 -- whoever stands for news has settings of a proper run
-pub stands-proper : (taken : List News) (s : SessionSeen) → StandsFor taken s → IsProper s.settings []
+pub stands-proper : (taken : List News) (s : SessionSeen) → StandsForNews taken s → IsProper s.settings []
 stands-proper taken s st = begun-proper s.settings st.can_begin
 
 module _ (settings : Settings) (entries : List Entry) (logs : List WorkerLog) (spent : ℕ) (b : Books) (kn : Known) (st : Plan → Type 0) (k : InStep settings entries logs spent b kn st) (j : Journal) (same : j.settings ≡ settings) where

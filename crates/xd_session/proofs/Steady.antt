@@ -31,7 +31,7 @@ use Rattle.xd_rules.specs.Joining.{IsBare, IsToJoin}
 use Rattle.xd_run_books.specs.Kept.{log_in, shortened}
 use Rattle.xd_run_books.specs.Known.{Known}
 use Rattle.xd_rules.specs.Rules.{At, InStep}
-use Rattle.xd_session.specs.Stands.{SessionSeen, StandsFor}
+use Rattle.xd_session.specs.Stands.{SessionSeen, StandsForNews}
 use Rattle.xd_session.specs.Told.{Steady, Told, TookNews}
 use Rattle.xd_session.proofs.Joins.{AllCollected, joins-following}
 use Rattle.xd_session.proofs.Steps.{journal-more, logs-more, meaning-follows, meaning-short, orderly-next, proper-more, run-more, run-taken, short-twice, sound-run, spent-more, state-next}
@@ -123,7 +123,7 @@ step-next settings entries now logs logs_now spent spent_now b c kn kc st st_now
 
 pub stands-next : (settings : Settings) (entries now : List Entry) (logs logs_now : List WorkerLog) (spent spent_now : ℕ) (b c : Books) (kn kc : Known) (st st_now : Plan → Type 0) (n : News) (taken : List News) → InStep settings entries logs spent b kn st
     → is_active n.worker b ≡ true → TookNews n.worker n.what (state_at settings entries) logs logs_now entries now spent spent_now c kc st_now
-    → StandsFor taken (record { settings = settings; entries = entries; logs = logs; whole = true }) → StandsFor (taken ++ n ∷ []) (record { settings = settings; entries = now; logs = logs_now; whole = true })
+    → StandsForNews taken (record { settings = settings; entries = entries; logs = logs; whole = true }) → StandsForNews (taken ++ n ∷ []) (record { settings = settings; entries = now; logs = logs_now; whole = true })
 stands-next settings entries now logs logs_now spent spent_now b c kn kc st st_now n taken k a t f =
     let s0 = state_at settings entries in
     let w = n.worker in
@@ -148,7 +148,7 @@ stands-next settings entries now logs logs_now spent spent_now b c kn kc st st_n
     }
 
 pub stands-inside : (settings : Settings) (entries : List Entry) (logs : List WorkerLog) (whole : Bool) (v : SessionSeen) (taken : List News) → record { settings = settings; entries = entries; logs = logs; whole = whole } ≡ v → v.whole ≡ true
-    → StandsFor taken v → StandsFor taken (record { settings = settings; entries = entries; logs = logs; whole = true })
+    → StandsForNews taken v → StandsForNews taken (record { settings = settings; entries = entries; logs = logs; whole = true })
 stands-inside settings entries logs whole v taken e h f =
     let w : whole ≡ true = ap (λ (u : SessionSeen). u.whole) e ∙ h in
-    subst (λ q. StandsFor taken (record { settings = settings; entries = entries; logs = logs; whole = q })) w (subst (λ u. StandsFor taken u) (sym e) f)
+    subst (λ q. StandsForNews taken (record { settings = settings; entries = entries; logs = logs; whole = q })) w (subst (λ u. StandsForNews taken u) (sym e) f)

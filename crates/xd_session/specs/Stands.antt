@@ -32,7 +32,7 @@ pub record CanBegin (settings : Settings) : Type 0 where
 
 -- the session took these news: its settings are such, its journal is that of these news, and it keeps the last log of each
 -- worker
-pub record StandsFor (taken : List News) (s : SessionSeen) : Type 0 where
+pub record StandsForNews (taken : List News) (s : SessionSeen) : Type 0 where
   pub whole : s.whole ≡ true
   pub can_begin : CanBegin s.settings
   pub entries : s.entries ≡ (run_of s.settings taken).entries

@@ -9,7 +9,7 @@ ghost use Rattle.xd_run_books.specs.Books.{books_of};
 ghost use Rattle.xd_ledger.specs.Ending.{ending, may_close, stop_of};
 ghost use Rattle.xd_ledger.specs.Legal.{IsLegal};
 ghost use Rattle.xd_session.specs.Ends.{is_out_fault, last_stop};
-ghost use Rattle.xd_session.specs.Stands.{CanBegin, StandsFor, state_of};
+ghost use Rattle.xd_session.specs.Stands.{CanBegin, StandsForNews, state_of};
 
 use crate::step::Step;
 use crate::take::Core;
@@ -72,7 +72,7 @@ impl<M: Mode> Session<M> {
     pub fn new(alloc: Global, settings: Settings, mode: M) -> Result<Session<M>, OutOfMemory>
         requires settings { CanBegin settings }
         requires fresh { M.stands mode (no_one settings).plan }
-        ensures stands { IfOk result (λ s. StandsFor [] s) }
+        ensures stands { IfOk result (λ s. StandsForNews [] s) }
         ensures owes { IfOk result (λ s. is_over (state_of s).books ≡ false →
             someone_owes (state_of s) ≡ true) }
         ensures settings { IfOk result (λ s. s.settings ≡ settings) }
@@ -101,8 +101,8 @@ impl<M: Mode> Session<M> {
     pub fn step(&mut self, alloc: Global, news: News) -> Result<Step, OutOfMemory>
         requires whole { self.old.whole ≡ true }
         requires active { is_active news.worker (state_of self.old).books ≡ true }
-        ensures stands { OnOk result ((taken : List News) → StandsFor taken self.old →
-            StandsFor (taken ++ news ∷ []) self.new) }
+        ensures stands { OnOk result ((taken : List News) → StandsForNews taken self.old →
+            StandsForNews (taken ++ news ∷ []) self.new) }
         ensures whole { OnOk result (self.new.whole ≡ true) }
         ensures owes { OnOk result (is_over (state_of self.new).books ≡ false →
             someone_owes (state_of self.new) ≡ true) }

@@ -14,7 +14,7 @@ use Rattle.xd_ledger.specs.Modes.ModeCall.{Share}
 use Rattle.xd_ledger.specs.Turn.{Turn, give_front, shut, shut_each}
 use Rattle.xd_ledger.specs.Worksteal.{kept_part, idle, most, open_seats, dealt, victim, steal_count, asks, asks_or_shuts, after_dealing, rule}
 use Rattle.xd_ledger.specs.Turn.{enough}
-use Rattle.xd_steal.specs.Stands.{StandsFor, MatchesTurn}
+use Rattle.xd_steal.specs.Stands.{StandsForSteal, MatchesTurn}
 use Rattle.xd_steal.proofs.Rota.{first_is}
 
 pub dealt-next : (ws : List ℕ) (i : ℕ) (t u : Turn) → i < length ws → u ≡ give_front (get_or ws i 0) (length t.table.pool / (length ws - i)) t → dealt (drop (i + 1) ws) u ≡ dealt (drop i ws) t
@@ -50,11 +50,11 @@ victim_is w t d h =
 abbrev pub number_for : ℕ → ℕ
 number_for n = min (n / kept_part) (n - enough)
 
-follows : (t : Table) (p : Plan) (acts : List Entry) (asked : Option ℕ) (u : Turn) → turn t p acts ≡ u → StandsFor asked p → MatchesTurn u t acts asked
+follows : (t : Table) (p : Plan) (acts : List Entry) (asked : Option ℕ) (u : Turn) → turn t p acts ≡ u → StandsForSteal asked p → MatchesTurn u t acts asked
 follows t p acts asked u e s = record {
   table_is = ap (λ (v : Turn). v.table) e;
   acts_are = ap (λ (v : Turn). v.acts) e;
-  stands_for = subst (StandsFor asked) (ap (λ (v : Turn). v.plan) e) s;
+  stands_for = subst (StandsForSteal asked) (ap (λ (v : Turn). v.plan) e) s;
 }
 
 shuts-at_zero : (ws : List ℕ) (w : ℕ) (t : Table) (u : Turn) → VictimIs w t → number_for (length (held w t)) ≡ 0 → asks_or_shuts ws (victim t) u ≡ shut_each ws u
@@ -78,12 +78,12 @@ rule-deals [] t e n = absurd (cc)
 rule-deals (w ∷ ws) t e n = ap (λ (vs : List ℕ). elim vs as (λ _. Turn) [ [] ↦ t | v ∷ vs ↦ after_dealing (dealt (v ∷ vs) t) ]) (sym e)
 
 pub follows_shut : (ws : List ℕ) (w n : ℕ) (t now : Table) (p : Plan) (acts acts_now : List Entry) (asked : Option ℕ) → VictimIs w t → n ≡ number_for (length (held w t)) → n ≡ 0
-    → turn now p acts_now ≡ shut_each ws (turn t p acts) → StandsFor asked p → MatchesTurn (asks_or_shuts ws (victim t) (turn t p acts)) now acts_now asked
+    → turn now p acts_now ≡ shut_each ws (turn t p acts) → StandsForSteal asked p → MatchesTurn (asks_or_shuts ws (victim t) (turn t p acts)) now acts_now asked
 follows_shut ws w n t now p acts acts_now asked v e z h s =
     follows now p acts_now asked (asks_or_shuts ws (victim t) (turn t p acts)) (h ∙ sym (shuts-at_zero ws w t (turn t p acts) v (sym e ∙ z))) s
 
 pub follows_asked : (ws : List ℕ) (w n : ℕ) (t : Table) (p : Plan) (acts acts_now : List Entry) (asked asked_now : Option ℕ) → VictimIs w t → n ≡ number_for (length (held w t)) → (n ≡ 0 → ⊥)
-    → asked_now ≡ Some w → acts_now ≡ acts ++ Steal w (drop (length (held w t) - n) (held w t)) ∷ [] → StandsFor asked p
+    → asked_now ≡ Some w → acts_now ≡ acts ++ Steal w (drop (length (held w t) - n) (held w t)) ∷ [] → StandsForSteal asked p
     → MatchesTurn (asks_or_shuts ws (victim t) (turn t p acts)) t acts_now asked_now
 follows_asked ws w n t p acts acts_now asked asked_now v e z o h s =
     let some : (n == 0) ≡ false = grind (arith, nat_tests) in
@@ -91,19 +91,19 @@ follows_asked ws w n t p acts acts_now asked asked_now v e z o h s =
     record {
       table_is = sym (ap (λ (u : Turn). u.table) u);
       acts_are = h ∙ ap (λ m. acts ++ Steal w (drop (length (held w t) - m) (held w t)) ∷ []) e ∙ sym (ap (λ (u : Turn). u.acts) u);
-      stands_for = subst (StandsFor asked_now) (sym (ap (λ (u : Turn). u.plan) u)) (record { mode = s.mode; steal = sym o });
+      stands_for = subst (StandsForSteal asked_now) (sym (ap (λ (u : Turn). u.plan) u)) (record { mode = s.mode; steal = sym o });
     }
 
 shares-by : (pool : List ℕ) (t : Turn) → (length pool ≡ 0 → ⊥) → (elim pool as (λ _. Turn) [ [] ↦ t | x ∷ xs ↦ rule t ]) ≡ rule t
 shares-by [] t h = absurd (h refl)
 shares-by (x ∷ xs) t h = refl
 
-pub shares : (slots : List ℕ) (p : Plan) (t now : Table) (acts acts_now : List Entry) (asked asked_now : Option ℕ) → StandsFor asked p → (length t.pool ≡ 0 → ⊥)
-    → MatchesTurn (rule (turn t p acts)) now acts_now asked_now → Turned (Share slots) p t acts now acts_now (StandsFor asked_now)
+pub shares : (slots : List ℕ) (p : Plan) (t now : Table) (acts acts_now : List Entry) (asked asked_now : Option ℕ) → StandsForSteal asked p → (length t.pool ≡ 0 → ⊥)
+    → MatchesTurn (rule (turn t p acts)) now acts_now asked_now → Turned (Share slots) p t acts now acts_now (StandsForSteal asked_now)
 shares slots p t now acts acts_now asked asked_now s some f =
     let e = ap (λ m. turned m (Share slots) (turn t p acts)) s.mode ∙ shares-by t.pool (turn t p acts) some in
     record {
       table_is = f.table_is ∙ sym (ap (λ (u : Turn). u.table) e);
       acts_are = f.acts_are ∙ sym (ap (λ (u : Turn). u.acts) e);
-      stands_for = subst (StandsFor asked_now) (sym (ap (λ (u : Turn). u.plan) e)) f.stands_for;
+      stands_for = subst (StandsForSteal asked_now) (sym (ap (λ (u : Turn). u.plan) e)) f.stands_for;
     }

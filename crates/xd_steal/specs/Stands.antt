@@ -8,7 +8,7 @@ use Rattle.xd_ledger.specs.Turn.{Turn}
 
 -- it keeps which worker has not answered its steal
 -- Example: after the death of the worker that was asked, a mode that still keeps it stands for no plan of the run.
-pub record StandsFor (asked : Option ℕ) (p : Plan) : Type 0 where
+pub record StandsForSteal (asked : Option ℕ) (p : Plan) : Type 0 where
   pub mode : p.mode ≡ WorkSteal
   pub steal : option_map (λ a. a.worker) p.steal ≡ asked
 
@@ -16,4 +16,4 @@ pub record StandsFor (asked : Option ℕ) (p : Plan) : Type 0 where
 pub record MatchesTurn (u : Turn) (t : Table) (acts : List Entry) (asked : Option ℕ) : Type 0 where
   pub table_is : t ≡ u.table
   pub acts_are : acts ≡ u.acts
-  pub stands_for : StandsFor asked u.plan
+  pub stands_for : StandsForSteal asked u.plan

@@ -7,7 +7,7 @@ ghost use Rattle.xd_ledger.specs.Plan.{Plan};
 ghost use Rattle.xd_ledger.specs.Table.{held, in_rota, workers_of};
 ghost use Rattle.xd_ledger.specs.Worksteal.{kept_part, dealt, victim, asks_or_shuts, after_dealing, rule};
 ghost use Rattle.xd_ledger.specs.Turn.{enough, shut_each};
-ghost use Rattle.xd_steal.specs.Stands.{MatchesTurn, StandsFor};
+ghost use Rattle.xd_steal.specs.Stands.{MatchesTurn, StandsForSteal};
 
 use crate::workers::{idle, victim};
 use std::alloc::Global;
@@ -88,7 +88,7 @@ fn ask_or_shut(
 ) -> Result<(), OutOfMemory>
     requires seats { all_distinct (workers_of ledger.old) ≡ true }
     requires seated { all_among workers.now (workers_of ledger.old) ≡ true }
-    ensures { OnOk result ((p : Plan) → StandsFor asked.old p →
+    ensures { OnOk result ((p : Plan) → StandsForSteal asked.old p →
         MatchesTurn (asks_or_shuts workers.now (victim ledger.old)
         (turn ledger.old p acts.old.items)) ledger.new acts.new.items asked.new) }
 {
@@ -111,7 +111,7 @@ fn after_dealing(
     acts: &mut Vec<Entry>,
 ) -> Result<(), OutOfMemory>
     requires { all_distinct (workers_of ledger.old) ≡ true }
-    ensures { OnOk result ((p : Plan) → StandsFor asked.old p →
+    ensures { OnOk result ((p : Plan) → StandsForSteal asked.old p →
         MatchesTurn (after_dealing (turn ledger.old p acts.old.items)) ledger.new acts.new.items
         asked.new) }
 {
@@ -130,7 +130,7 @@ pub(crate) fn rule(
     acts: &mut Vec<Entry>,
 ) -> Result<(), OutOfMemory>
     requires { all_distinct (workers_of ledger.old) ≡ true }
-    ensures { OnOk result ((p : Plan) → StandsFor asked.old p →
+    ensures { OnOk result ((p : Plan) → StandsForSteal asked.old p →
         MatchesTurn (rule (turn ledger.old p acts.old.items)) ledger.new acts.new.items asked.new) }
 {
     let workers = idle(alloc, ledger)?;

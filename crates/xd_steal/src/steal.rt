@@ -3,7 +3,7 @@ ghost use Rattle.std.specs.Prelude.{◌≡◌, None, Option, option_map};
 ghost use Rattle.xd_edge.specs.declared.mode.ModeKind.TheVariants.{WorkSteal};
 ghost use Rattle.xd_ledger.specs.Plan.{UnansweredSteal, Plan};
 ghost use Rattle.xd_ledger.specs.Deaths.{steal_without};
-ghost use Rattle.xd_steal.specs.Stands.{StandsFor};
+ghost use Rattle.xd_steal.specs.Stands.{StandsForSteal};
 
 use crate::rule::rule;
 use std::alloc::Global;
@@ -36,7 +36,7 @@ impl Steal {
 }
 
 impl Mode for Steal {
-    ghost stands = { λ m p. StandsFor m.asked p };
+    ghost stands = { λ m p. StandsForSteal m.asked p };
 
     fn share(
         &mut self,

@@ -45,8 +45,8 @@ count_items no_items = 0
 count_items (item d ds) = count_items ds + 1
 
 -- the value is a text
-abbrev pub is_text : Data → Bool
-is_text d = is_some (as_str d)
+abbrev pub is_toml_text : Data → Bool
+is_toml_text d = is_some (as_str d)
 
 -- the value is a table
 abbrev pub is_table : Data → Bool
@@ -72,7 +72,7 @@ has_group_kind ms = not (is_some (get_member (codes "group") ms)) || is_some (te
 
 -- `id` is a text, `run` an array of texts, and `group`, where it stands, a text
 abbrev pub has_kinds : Members → Bool
-has_kinds ms = is_some (text_at (codes "id") ms) && is_array_with (each_item_holds is_text) (array_at (codes "run") ms) && has_group_kind ms
+has_kinds ms = is_some (text_at (codes "id") ms) && is_array_with (each_item_holds is_toml_text) (array_at (codes "run") ms) && has_group_kind ms
 
 -- a text that stands there is an id
 abbrev pub is_id_if_any : Option (List ℕ) → Bool

@@ -44,9 +44,9 @@ IsFaulty bytes fault =
     ((most_suite_bytes < length bytes) × (fault ≡ of_file TooLarge)) ⊎ ((IsNotToml bytes × (fault ≡ of_file NotToml)) ⊎ HasFault bytes fault)
 
 -- These bytes are refused so; where memory ran out the cause is not in them.
-abbrev pub IsRefused : List ℕ → SuiteRefusal → Type 0
-IsRefused bytes (Bad fault) = IsFaulty bytes fault
-IsRefused bytes OutOfMemory = Unit {0}
+abbrev pub IsSuiteRefused : List ℕ → SuiteRefusal → Type 0
+IsSuiteRefused bytes (Bad fault) = IsFaulty bytes fault
+IsSuiteRefused bytes OutOfMemory = Unit {0}
 
 -- a refusal for the fault that is there, or because memory ran out
 abbrev pub NamesFault : Option SuiteFault → SuiteRefusal → Type 0

@@ -1,7 +1,7 @@
 // The tests of a suite file.
 ghost use Rattle.std.specs.Prelude.{◌≡◌, ◌<◌, None, length, IfOk, IfErr};
 ghost use Rattle.xd_suite.specs.Faults.{repeat_of};
-ghost use Rattle.xd_suite.specs.Suite.{IsSuiteOf, IsRefused};
+ghost use Rattle.xd_suite.specs.Suite.{IsSuiteOf, IsSuiteRefused};
 ghost use Rattle.xd_suite.specs.Tests.{ids_by_mode, run_at};
 
 use crate::fault::of_file;
@@ -36,7 +36,7 @@ impl Suite {
     /// The tests of the file with these bytes, or its first fault.
     pub fn read(alloc: Global, bytes: &[u8]) -> Result<Suite, SuiteRefusal>
         ensures ok { IfOk result (IsSuiteOf bytes.now) }
-        ensures refused { IfErr result (IsRefused bytes.now) }
+        ensures refused { IfErr result (IsSuiteRefused bytes.now) }
     {
         if bytes.len() as u64 > MAX_SUITE_BYTES {
             return Err(of_file(SuiteWhat::TooLarge));

@@ -4,7 +4,7 @@ ghost use Rattle.std.specs.List.{list_all};
 ghost use Rattle.std.specs.BTreeMap.{keys};
 ghost use Rattle.toml.specs.View.{view, array_view, table_view};
 ghost use Rattle.toml.specs.Data.{get_member};
-ghost use Rattle.xd_suite.specs.Faults.{each_item_holds, count_items, has_only_keys, is_suite_key, is_table, is_test_key, is_text};
+ghost use Rattle.xd_suite.specs.Faults.{each_item_holds, count_items, has_only_keys, is_suite_key, is_table, is_test_key, is_toml_text};
 ghost use Rattle.xd_suite.specs.Tests.{array_at, text_at};
 
 use toml::value::Array;
@@ -71,13 +71,13 @@ pub fn are_tables(array: &Array) -> bool
 }
 
 fn each_is_text(array: &Array) -> bool
-    ensures { result ≡ list_all (λ v. is_text (view v)) array.now.items }
+    ensures { result ≡ list_all (λ v. is_toml_text (view v)) array.now.items }
 {
     array.iter().all(|value| value.is_str())
 }
 
 pub fn are_texts(array: &Array) -> bool
-    ensures { result ≡ each_item_holds is_text (array_view array.now) }
+    ensures { result ≡ each_item_holds is_toml_text (array_view array.now) }
 {
     each_is_text(array)
 }

@@ -17,7 +17,7 @@ use Rattle.xd_link.specs.Spring.{Spring}
 use Rattle.xd_listen.proofs.Completing.{calm, complete, goes_wrong}
 use Rattle.xd_linked.specs.Linked.{EndedLink}
 use Rattle.xd_top.specs.Outside.{Workplace}
-use Rattle.xd_top.specs.Worker.{DidServe, ServedLink, ServesLink, all_bytes, scene_at, unwritten}
+use Rattle.xd_top.specs.Worker.{DidServe, ServedLink, ServesLink, all_bytes, served_scene, unwritten}
 
 -- a sink that was not written to, by what it tells later
 unwritten_by : (old new : Option Sunk) (f : Sunk → Sunk) → IfSome old (λ s. s ≡ unused) → new ≡ option_map f old → old ≡ unwritten new
@@ -51,7 +51,7 @@ all_left bytes (Some s) new P none g p =
 -- a link, by what was told of it when it was started
 pub served_link : (status : ℕ) (start end : Spring) (sunk : Option Sunk) (n : ℕ) (old : Workplace) (new : Scene)
     → IfSome start.supply (λ s. s.given ≡ []) → start.ended ≡ false → start.faults ≡ 0 → IfSome sunk (λ s. s ≡ unused) → n ≡ 0
-    → Served status old.files.held start end (scene_at sunk n old) new → ServedLink status end old new
+    → Served status old.files.held start end (served_scene sunk n old) new → ServedLink status end old new
 served_link status start end sunk n old new given ended reads taken writes served = record {
   start = start;
   sunk = sunk;
@@ -59,42 +59,42 @@ served_link status start end sunk n old new given ended reads taken writes serve
   not_ended = ended;
   no_reads = reads;
   none_taken = taken;
-  served = subst (λ (k : ℕ). Served status old.files.held start end (scene_at sunk k old) new) writes served;
+  served = subst (λ (k : ℕ). Served status old.files.held start end (served_scene sunk k old) new) writes served;
 }
 
 module _ (status : ℕ) (end : Spring) (old : Workplace) (new : Scene) (s : ServedLink status end old new) where
   -- before the link was served
   abbrev pub before : Scene
-  before = scene_at (unwritten new.sunk) 0 old
+  before = served_scene (unwritten new.sunk) 0 old
 
   abbrev held : Option Held
   held = old.files.held
 
-  before_is : scene_at s.sunk 0 old ≡ before
+  before_is : served_scene s.sunk 0 old ≡ before
   before_is =
       let e = s.served.2 in
-      ap (λ (o : Option Sunk). scene_at o 0 old) (spoken_unwritten e.wrote e.history s.sunk e.sunk s.none_taken e.spoke.says ∙ sym (closed_unwritten e.closed e.sunk new.sunk e.sink_faults new.sink_faults e.closes))
+      ap (λ (o : Option Sunk). served_scene o 0 old) (spoken_unwritten e.wrote e.history s.sunk e.sunk s.none_taken e.spoke.says ∙ sym (closed_unwritten e.closed e.sunk new.sunk e.sink_faults new.sink_faults e.closes))
 
   pub link_calm : status ≡ 0 → IsCalm 0 end.faults before new
-  link_calm zero = subst (λ (n : ℕ). IsCalm n end.faults before new) s.no_reads (subst (λ (x : Scene). IsCalm s.start.faults end.faults x new) before_is (calm held s.start end (scene_at s.sunk 0 old) new status s.served zero))
+  link_calm zero = subst (λ (n : ℕ). IsCalm n end.faults before new) s.no_reads (subst (λ (x : Scene). IsCalm s.start.faults end.faults x new) before_is (calm held s.start end (served_scene s.sunk 0 old) new status s.served zero))
 
   pub link_wrong : status ≢ 0 → IfSome end.supply (λ t. GoesWrong held (all_bytes t) 0 end.faults before new)
   link_wrong not_zero = all_left s.served.2.bytes s.start.supply end.supply (λ l. GoesWrong held l 0 end.faults before new) s.none_given s.served.2.gave
       (subst (λ (n : ℕ). IfSome s.start.supply (λ t. GoesWrong held t.left n end.faults before new)) s.no_reads
       (subst (λ (x : Scene). IfSome s.start.supply (λ t. GoesWrong held t.left s.start.faults end.faults x new)) before_is
-      (goes_wrong held s.start end (scene_at s.sunk 0 old) new status s.served not_zero)))
+      (goes_wrong held s.start end (served_scene s.sunk 0 old) new status s.served not_zero)))
 
   pub link_complete : IfSome end.supply (λ t. AreGood held (all_bytes t) before new → StoodStill 0 end.faults → AreStill before new → status ≡ 0)
   link_complete = all_left s.served.2.bytes s.start.supply end.supply (λ l. AreGood held l before new → StoodStill 0 end.faults → AreStill before new → status ≡ 0) s.none_given s.served.2.gave
       (subst (λ (n : ℕ). IfSome s.start.supply (λ t. AreGood held t.left before new → StoodStill n end.faults → AreStill before new → status ≡ 0)) s.no_reads
       (subst (λ (x : Scene). IfSome s.start.supply (λ t. AreGood held t.left x new → StoodStill s.start.faults end.faults → AreStill x new → status ≡ 0)) before_is
-      (complete held s.start end (scene_at s.sunk 0 old) new status s.served)))
+      (complete held s.start end (served_scene s.sunk 0 old) new status s.served)))
 
 -- the link to a place, by how it was served
-pub serves_link : (place : Place) (l : EndedLink) (status : ℕ) (old new : Workplace) → l.worker ≡ 0 → l.killed ≡ false → ServedLink status l.link.spring old (scene_at l.link.sunk l.link.writes new)
+pub serves_link : (place : Place) (l : EndedLink) (status : ℕ) (old new : Workplace) → l.worker ≡ 0 → l.killed ≡ false → ServedLink status l.link.spring old (served_scene l.link.sunk l.link.writes new)
     → new.starter.begun ≡ option_map (with_start place) old.starter.begun → new.starter.faults ≡ old.starter.faults → ServesLink place l status old new
 serves_link place l status old new number killed served started still =
-    let seen = scene_at l.link.sunk l.link.writes new in
+    let seen = served_scene l.link.sunk l.link.writes new in
     record {
       number = number;
       not_killed = killed;

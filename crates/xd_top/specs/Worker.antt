@@ -22,8 +22,8 @@ abbrev pub unwritten : Option Sunk → Option Sunk
 unwritten sunk = option_map (λ _. unused) sunk
 
 -- what is seen of the worker's link and of what it works on, as the loop that serves a link sees it
-abbrev pub scene_at : Option Sunk → ℕ → Workplace → Scene
-scene_at sunk writes place = scene sunk writes place.programs.runs place.programs.faults place.files.faults place.crews.readers place.crews.runners place.clock
+abbrev pub served_scene : Option Sunk → ℕ → Workplace → Scene
+served_scene sunk writes place = scene sunk writes place.programs.runs place.programs.faults place.files.faults place.crews.readers place.crews.runners place.clock
 
 -- A link was started, of which nothing was read or written before, and it was served to its end, with this exit status.
 -- Example: standard input is empty: the byte `1` is written and the status is 0.
@@ -34,7 +34,7 @@ pub record ServedLink (status : ℕ) (end : Spring) (old : Workplace) (new : Sce
   pub not_ended : start.ended ≡ false
   pub no_reads : start.faults ≡ 0
   pub none_taken : IfSome sunk (λ s. s ≡ unused)
-  pub served : Served status old.files.held start end (scene_at sunk 0 old) new
+  pub served : Served status old.files.held start end (served_scene sunk 0 old) new
 
 -- The link to this place was started and served to its end. The status is 0 only where no count of the starter, the
 -- link and the crews rose, and another one only where something is wrong with the link; where the link tells its bytes,
@@ -42,13 +42,13 @@ pub record ServedLink (status : ℕ) (end : Spring) (old : Workplace) (new : Sce
 pub record ServesLink (place : Place) (l : EndedLink) (status : ℕ) (old new : Workplace) : Type 0 where
   pub number : l.worker ≡ 0
   pub not_killed : l.killed ≡ false
-  pub served : ServedLink status l.link.spring old (scene_at l.link.sunk l.link.writes new)
+  pub served : ServedLink status l.link.spring old (served_scene l.link.sunk l.link.writes new)
   pub started : new.starter.begun ≡ option_map (with_start place) old.starter.begun
   pub starts_still : new.starter.faults ≡ old.starter.faults
-  pub calm : status ≡ 0 → IsCalm 0 l.link.spring.faults (scene_at (unwritten l.link.sunk) 0 old) (scene_at l.link.sunk l.link.writes new)
-  pub wrong : status ≢ 0 → IfSome l.link.spring.supply (λ s. GoesWrong old.files.held (all_bytes s) 0 l.link.spring.faults (scene_at (unwritten l.link.sunk) 0 old) (scene_at l.link.sunk l.link.writes new))
-  pub complete : IfSome l.link.spring.supply (λ s. AreGood old.files.held (all_bytes s) (scene_at (unwritten l.link.sunk) 0 old) (scene_at l.link.sunk l.link.writes new)
-      → StoodStill 0 l.link.spring.faults → AreStill (scene_at (unwritten l.link.sunk) 0 old) (scene_at l.link.sunk l.link.writes new) → status ≡ 0)
+  pub calm : status ≡ 0 → IsCalm 0 l.link.spring.faults (served_scene (unwritten l.link.sunk) 0 old) (served_scene l.link.sunk l.link.writes new)
+  pub wrong : status ≢ 0 → IfSome l.link.spring.supply (λ s. GoesWrong old.files.held (all_bytes s) 0 l.link.spring.faults (served_scene (unwritten l.link.sunk) 0 old) (served_scene l.link.sunk l.link.writes new))
+  pub complete : IfSome l.link.spring.supply (λ s. AreGood old.files.held (all_bytes s) (served_scene (unwritten l.link.sunk) 0 old) (served_scene l.link.sunk l.link.writes new)
+      → StoodStill 0 l.link.spring.faults → AreStill (served_scene (unwritten l.link.sunk) 0 old) (served_scene l.link.sunk l.link.writes new) → status ≡ 0)
 
 -- The link to this place could not be started. All but the starter is as it was: no file was read, no program was started, no
 -- job was handed to a crew, and the clock was not asked.

@@ -29,7 +29,7 @@ use Rattle.xd_factory.specs.SideTable.{heard_of_message, answer, lost}
 use Rattle.xd_worker.specs.Talk.{sent_how, payload_on}
 use Rattle.xd_worker.specs.Worker.{Service, WorkerTurn, worker_turn_of, running_in}
 use Rattle.xd_worker.specs.Turns.{Came, Told, SuiteRead, NoSuite, Printed, ChildEnded, LinkEnded, at_talk, ended_call, asked, all_asked, given_in, fed_to, fed, called, is_called, echo_ended, echoed, echoed_how, is_service, worker_stopped, did, did_unless, is_written, ids_to_collect, suite_read, suite_refused, worker_turned}
-use Rattle.xd_worker.specs.History.{HeardInput, worker_after, turn_by, KnownTests}
+use Rattle.xd_worker.specs.History.{HeardInput, worker_after, turn_by, WorkerKnowsTests}
 
 -- the suite of `run_tests` has no more tests than were read, and none before a suite was
 abbrev FitsSize : Bool → ℕ → ℕ → Type 0
@@ -204,7 +204,7 @@ below : (run : Option ℕ) (m k : ℕ) → IsBelow run m → run ≡ Some k → 
 below None m k h e = cc
 below (Some j) m k h e = let same : j ≡ k = (let z = e in cc) in subst (λ (x : ℕ). x < m) same h
 
-pub all_known_tests : KnownTests
+pub all_known_tests : WorkerKnowsTests
 all_known_tests = record {
   runs = λ h k e. let d = (worker_after h).duties in running_below d.owed d.service (length d.tests) k (known_after h).fits e;
   starts = λ h g k e. below (turn_by (worker_after h) g).run _ k (turned_known g.came g.channels (worker_turn_of (worker_after h)) refl (known_after h)).run_in e;

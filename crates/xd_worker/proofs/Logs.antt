@@ -7,7 +7,7 @@ use Rattle.std.specs.List.{AllByRecursion}
 use Rattle.std.proofs.lemmas.Map.Keys.{sorted_head, sorted_tail}
 use Rattle.std.proofs.lemmas.Bool.Decides.{nat_tests}
 use Rattle.xd_value.specs.Tree.{Tree}
-use Rattle.xd_channel.specs.State.{EndState, fresh, after_put, end_of}
+use Rattle.xd_channel.specs.State.{EndState, fresh_end, after_put, end_of}
 use Rattle.xd_channel.specs.declared.end.End.{End}
 use Rattle.xd_channel.specs.declared.end.End.TheVariants.{LastMessage, Lost}
 use Rattle.xd_factory.specs.declared.parity.Parity.{Parity}
@@ -233,15 +233,15 @@ open_evens t n e = record {
   held = λ z c h. held_at c (t.next == c) refl h;
 }
   where
-    plain_at : (c : ℕ) → is_mine Even c ≡ true → (b : Bool) → Plain (if b then Here fresh else t.slot c)
+    plain_at : (c : ℕ) → is_mine Even c ≡ true → (b : Bool) → Plain (if b then Here fresh_end else t.slot c)
     plain_at c m true = (refl, refl)
     plain_at c m false = e.plain c m
 
-    last_at : (c : ℕ) → is_mine Even c ≡ true → (b : Bool) → (t.next == c) ≡ b → is_here (if b then Here fresh else t.slot c) ≡ true → c + 2 ≡ number_of_log (n + 1)
+    last_at : (c : ℕ) → is_mine Even c ≡ true → (b : Bool) → (t.next == c) ≡ b → is_here (if b then Here fresh_end else t.slot c) ≡ true → c + 2 ≡ number_of_log (n + 1)
     last_at c m true q h = let x = eqb-true t.next c q in let z = e.next_is in omega (arith, x, z)
     last_at c m false q h = let z : true ≡ false = sym h ∙ e.idle refl c m in cc
 
-    held_at : (c : ℕ) (b : Bool) → (t.next == c) ≡ b → c + 2 ≡ number_of_log (n + 1) → is_here (if b then Here fresh else t.slot c) ≡ true
+    held_at : (c : ℕ) (b : Bool) → (t.next == c) ≡ b → c + 2 ≡ number_of_log (n + 1) → is_here (if b then Here fresh_end else t.slot c) ≡ true
     held_at c true q h = refl
     held_at c false q h = let z = e.next_is in let s : t.next ≡ c = omega (arith, z, h) in let y : true ≡ false = sym (eq-eqb t.next c s) ∙ q in cc
 

@@ -5,7 +5,7 @@ use Rattle.xd_value.specs.Tree.{Tree, Trees, Pairs}
 use Rattle.xd_value.specs.Tree as tree
 use Rattle.xd_gateway.specs.Calls.{has_text_keys}
 use Rattle.xd_edge.specs.declared.mode.ModeKind.{ModeKind}
-use Rattle.xd_channel.specs.State.{fresh, end_of, put_gives}
+use Rattle.xd_channel.specs.State.{fresh_end, end_of, put_gives}
 use Rattle.xd_channel.specs.declared.end.End.{End}
 use Rattle.xd_channel.specs.declared.end.End.TheVariants.{LastMessage}
 use Rattle.xd_channel.specs.declared.answers.Arrived.{Arrived}
@@ -109,8 +109,8 @@ opened_spare : (t : ChannelTable) (n : ℕ) → t.next ≡ number_of_log n → S
 opened_spare t n next short = λ log e xs o f. short xs o (λ c i. was log e c (log == c) (t.next == c) refl refl (f c i))
   where
     was : (log : ℕ) → log + 2 ≡ number_of_log (n + 1) → (c : ℕ) (a b : Bool) → (log == c) ≡ a → (t.next == c) ≡ b
-        → is_here (if a then function_ended_slot (if b then Here fresh else t.slot c) else (if b then Here fresh else t.slot c)) ≡ true → is_here (t.slot c) ≡ true
-    was log e c true b p q h = let z : true ≡ false = sym h ∙ ended_here (if b then Here fresh else t.slot c) in cc
+        → is_here (if a then function_ended_slot (if b then Here fresh_end else t.slot c) else (if b then Here fresh_end else t.slot c)) ≡ true → is_here (t.slot c) ≡ true
+    was log e c true b p q h = let z : true ≡ false = sym h ∙ ended_here (if b then Here fresh_end else t.slot c) in cc
     was log e c false true p q h = let x = eqb-true t.next c q in let s : log ≡ c = omega (arith, x, next, e) in let y : true ≡ false = sym (eq-eqb log c s) ∙ p in cc
     was log e c false false p q h = h
 

@@ -18,7 +18,7 @@ use Rattle.xd_journal.specs.declared.news.What.{What}
 use Rattle.xd_journal.specs.declared.news.What.TheVariants.{Collected}
 use Rattle.xd_gateway.specs.Events.{event_tree}
 use Rattle.xd_run_tests.specs.declared.run_tests.RunTests.{RunTests}
-use Rattle.xd_run_tests.specs.History.{turn_after, StandsFor as Follows}
+use Rattle.xd_run_tests.specs.History.{turn_after, StandsForGiven as Follows}
 use Rattle.xd_worker.specs.declared.input.WorkerActions.{WorkerActions}
 use Rattle.xd_worker.specs.declared.tests_call.TestsCall.{TestsCall}
 use Rattle.xd_worker.specs.declared.tests_call.Fed.{Fed}
@@ -33,11 +33,11 @@ use Rattle.xd_worker.specs.declared.input.WorkerFault.{WorkerFault}
 use Rattle.xd_worker.specs.declared.input.WorkerFault.TheVariants.{Link, OutOfMemory}
 use Rattle.xd_worker.specs.declared.input.WorkerInput.TheVariants.{Message}
 use Rattle.xd_factory.specs.SideTable.{RefusedBy, MustRefuse}
-use Rattle.xd_worker.specs.History.{HeardInput, IsToRefuse}
+use Rattle.xd_worker.specs.History.{HeardInput, IsInputToRefuse}
 use Rattle.xd_worker.specs.Logs.{AllOpen, LogsOpen}
 use Rattle.xd_worker.specs.Worker.{Service, Duties, WorkerTurn, Opening, Worker, worker_turn_of, logs_opened_by}
 use Rattle.xd_worker.specs.Turns.{at_talk, asked, all_asked, given_in, fed_to, ended_call, failed, echo_ended, echoed, echoed_how, is_called, is_written, suite_input, Told, did_unless}
-use Rattle.xd_worker.specs.Stands.{IsService, AreServices, AreDuties, Stands, FedBy, HasFed, Does, TakesMessage, FaultHasReason, IsFaultAt, RefusedAt}
+use Rattle.xd_worker.specs.Stands.{IsService, AreServices, AreDuties, IsWorkerTurn, FedBy, HasFed, Does, TakesMessage, FaultHasReason, IsFaultAt, RefusedAt}
 
 pub moved : (c : WorkerCore) (side : Side) (d : Duties) → AreDuties c d → AreDuties (record c { side = side }) d
 moved c side d h = record {
@@ -50,8 +50,8 @@ moved c side d h = record {
 }
 
 -- something was said
-pub spoke : (c : WorkerCore) (side : Side) (a : WorkerActions) (say : List MessageView) (t : WorkerTurn) (f : Talk → Talk) → talk_of side say ≡ f (talk_of c.side a.say) → Stands c a t
-    → Stands (record c { side = side }) (record a { say = say }) (at_talk f t)
+pub spoke : (c : WorkerCore) (side : Side) (a : WorkerActions) (say : List MessageView) (t : WorkerTurn) (f : Talk → Talk) → talk_of side say ≡ f (talk_of c.side a.say) → IsWorkerTurn c a t
+    → IsWorkerTurn (record c { side = side }) (record a { say = say }) (at_talk f t)
 spoke c side a say t f e h = record {
   talk_is = e ∙ ap f h.talk_is;
   duties_are = moved c side t.duties h.duties_are;
@@ -77,7 +77,7 @@ asked_before c (End text) t h = h
 
 -- an event was said, and a log opened for it
 pub announced : (c : WorkerCore) (side : Side) (a : WorkerActions) (say : List MessageView) (t : WorkerTurn) (n : ℕ) (event : What) → (AllOpen (logs_opened_by event (channel_table c.side)) → talk_of side say ≡ event_told n event (opening event (talk_of c.side a.say)))
-    → Stands c a t → AllOpen (asked n (Tell event) t).logs → Stands (record c { side = side }) (record a { say = say }) (asked n (Tell event) t)
+    → IsWorkerTurn c a t → AllOpen (asked n (Tell event) t).logs → IsWorkerTurn (record c { side = side }) (record a { say = say }) (asked n (Tell event) t)
 announced c side a say t n event g h k = record {
   talk_is =
       g (subst (λ (d : Talk). AllOpen (logs_opened_by event d.table)) (sym h.talk_is) (last_open t.logs (logs_opened_by event t.talk.table) k))
@@ -130,14 +130,14 @@ ended_none (Some s) h = absurd h
 
 -- ---- words that are written out
 
-pub text_is : (c : WorkerCore) (a : WorkerActions) (n : ℕ) (x y : List ℕ) (t : WorkerTurn) → x ≡ y → Stands c a (echo_ended n (Some x) t) → Stands c a (echo_ended n (Some y) t)
-text_is c a n x y t e h = subst (λ (z : List ℕ). Stands c a (echo_ended n (Some z) t)) e h
+pub text_is : (c : WorkerCore) (a : WorkerActions) (n : ℕ) (x y : List ℕ) (t : WorkerTurn) → x ≡ y → IsWorkerTurn c a (echo_ended n (Some x) t) → IsWorkerTurn c a (echo_ended n (Some y) t)
+text_is c a n x y t e h = subst (λ (z : List ℕ). IsWorkerTurn c a (echo_ended n (Some z) t)) e h
 
 pub failed_is : (c : WorkerCore) (a : WorkerActions) (n : ℕ) (text : Option (List ℕ)) (x y : List ℕ) (t : WorkerTurn) → x ≡ unwrap_or text (codes "fail") → y ≡ codes "fail"
-    → Stands c a (at_talk (function_ended n (Some x) (Some y)) t) → Stands c a (failed n text t)
+    → IsWorkerTurn c a (at_talk (function_ended n (Some x) (Some y)) t) → IsWorkerTurn c a (failed n text t)
 failed_is c a n text x y t e f h =
-    subst (λ (z : List ℕ). Stands c a (at_talk (function_ended n (Some (unwrap_or text (codes "fail"))) (Some z)) t)) f
-    (subst (λ (z : List ℕ). Stands c a (at_talk (function_ended n (Some z) (Some y)) t)) e h)
+    subst (λ (z : List ℕ). IsWorkerTurn c a (at_talk (function_ended n (Some (unwrap_or text (codes "fail"))) (Some z)) t)) f
+    (subst (λ (z : List ℕ). IsWorkerTurn c a (at_talk (function_ended n (Some z) (Some y)) t)) e h)
 
 -- ---- `echo`
 
@@ -146,7 +146,7 @@ unsaid n (Ok b) d h = absurd (let z = h in cc)
 unsaid n (Err f) d h = ap (λ (x : List MessageView). record d { says = x }) (append-nil d.says)
 
 pub left_out : (c : WorkerCore) (side : Side) (a : WorkerActions) (say : List MessageView) (t : WorkerTurn) (n : ℕ) (v : Tree) → sent_how (payload_on n v (channel_table c.side)) ≡ how.Unwritten
-    → talk_of side say ≡ sent n v (talk_of c.side a.say) → Stands c a t → Stands (record c { side = side }) (record a { say = say }) t
+    → talk_of side say ≡ sent n v (talk_of c.side a.say) → IsWorkerTurn c a t → IsWorkerTurn (record c { side = side }) (record a { say = say }) t
 left_out c side a say t n v u e h = record {
   talk_is = e ∙ unsaid n (payload_on n v (channel_table c.side)) (talk_of c.side a.say) u ∙ h.talk_is;
   duties_are = moved c side t.duties h.duties_are;
@@ -154,7 +154,7 @@ left_out c side a say t n v u e h = record {
   run_is = h.run_is;
 }
 
-pub echoed_long : (c : WorkerCore) (a : WorkerActions) (t : WorkerTurn) (n : ℕ) (v : Tree) → sent_how (payload_on n v (channel_table c.side)) ≡ how.Unwritten → Stands c a t
+pub echoed_long : (c : WorkerCore) (a : WorkerActions) (t : WorkerTurn) (n : ℕ) (v : Tree) → sent_how (payload_on n v (channel_table c.side)) ≡ how.Unwritten → IsWorkerTurn c a t
     → echo_ended n (Some (codes "item is too long")) t ≡ echoed n v t
 echoed_long c a t n v u h =
     ap (λ (s : Sent). echoed_how s n v t) (sym (ap (λ (d : Talk). sent_how (payload_on n v d.table)) (sym h.talk_is) ∙ u))
@@ -181,8 +181,8 @@ counts_at side say w n e k = subst (λ (d : Talk). Counts d.table.slot n) e k
 pub lost_counts : (side old : Side) (say : List MessageView) (w : Worker) (n : ℕ) → talk_of old say ≡ (worker_turn_of w).talk → channel_table side ≡ lost (channel_table old) → Counts (slot_of_number side) n → Counts (lost w.table).slot n
 lost_counts side old say w n e l k = subst (λ (t : ChannelTable). Counts t.slot n) (l ∙ ap (λ (d : Talk). lost d.table) e) k
 
-pub heard_does : (c c' : WorkerCore) (side : Side) (a a' : WorkerActions) (w : Worker) (m : MessageView) (k : Taken Value) → Stands c a (worker_turn_of w) → LogsOpen w → TakesMessage m (channel_table c.side) (channel_table side) k
-    → (n : ℕ) → Counts (slot_of_number side) n → ((t : WorkerTurn) → Stands (record c { side = side }) a t → AllOpen (did_unless t.duties.stopped (taken_tree k) n t).logs → Stands c' a' (did_unless t.duties.stopped (taken_tree k) n t)) → Does c' a' w (Message m)
+pub heard_does : (c c' : WorkerCore) (side : Side) (a a' : WorkerActions) (w : Worker) (m : MessageView) (k : Taken Value) → IsWorkerTurn c a (worker_turn_of w) → LogsOpen w → TakesMessage m (channel_table c.side) (channel_table side) k
+    → (n : ℕ) → Counts (slot_of_number side) n → ((t : WorkerTurn) → IsWorkerTurn (record c { side = side }) a t → AllOpen (did_unless t.duties.stopped (taken_tree k) n t).logs → IsWorkerTurn c' a' (did_unless t.duties.stopped (taken_tree k) n t)) → Does c' a' w (Message m)
 heard_does c c' side a a' w m k h l i n counts g =
     let old : channel_table c.side ≡ w.table = ap (λ (d : Talk). d.table) h.talk_is in
     let t = at_talk (λ d. record d { table = heard_of_message i.said d.table }) (worker_turn_of w) in
@@ -195,12 +195,12 @@ heard_does c c' side a a' w m k h l i n counts g =
       heard = came;
       is = i.means;
       counts = counted;
-      stands = subst (λ (x : Taken Tree). Stands c' a' (did_unless w.duties.stopped x n t)) does (g t mid logs);
+      stands = subst (λ (x : Taken Tree). IsWorkerTurn c' a' (did_unless w.duties.stopped x n t)) does (g t mid logs);
     }
 
 pub is_fault_at : (w : Worker) (t : ChannelTable) (m : MessageView) (f : WorkerFault) → t ≡ w.table → IsFaultAt t m f → FaultHasReason w (Message m) f
 is_fault_at w t m (Link f) e h = subst (λ (x : ChannelTable). RefusedBy x.fault x m f) e h
 is_fault_at w t m OutOfMemory e h = tt
 
-pub is_to_refuse : (w : Worker) (t : ChannelTable) (m : MessageView) (f : SideFault) → t ≡ w.table → IsToRefuse w (Message m) f → RefusedAt t m f
+pub is_to_refuse : (w : Worker) (t : ChannelTable) (m : MessageView) (f : SideFault) → t ≡ w.table → IsInputToRefuse w (Message m) f → RefusedAt t m f
 is_to_refuse w t m f e h = subst (λ (x : ChannelTable). MustRefuse x.fault x m f) (sym e) h

@@ -13,7 +13,7 @@ use Rattle.xd_factory.specs.declared.faults.CloseFault.{CloseFault}
 use Rattle.xd_factory.specs.declared.faults.CloseFault.TheVariants as close
 use Rattle.xd_factory.specs.declared.side.Side.{Side}
 use Rattle.xd_factory.specs.Slot.{Slot, Unseen, Here, Gone, is_seen, closed_slot, function_ended_slot}
-use Rattle.xd_factory.specs.Table.{close_refusal, closing_message, IsRefusal}
+use Rattle.xd_factory.specs.Table.{close_refusal, closing_message, IsCloseRefusal}
 use Rattle.xd_factory.specs.View.{slot_of_number, next_of, is_finished, entry_count, KeepsRest}
 use Rattle.xd_factory.specs.SideTable.{ChannelTable, Counts, channel_table, changed_at}
 use Rattle.xd_factory.proofs.SideTables.{tables, same_table}
@@ -46,8 +46,8 @@ unknown_closed (Here s) false h = absurd (let z = h in cc)
 unknown_closed Gone long h = refl
 
 -- which refusal it is
-pub refusal_is : (wanted : Option CloseFault) (f g : CloseFault) → f ≡ g → IsRefusal wanted f → IsRefusal wanted g
-refusal_is wanted f g e h = subst (λ (x : CloseFault). IsRefusal wanted x) e h
+pub refusal_is : (wanted : Option CloseFault) (f g : CloseFault) → f ≡ g → IsCloseRefusal wanted f → IsCloseRefusal wanted g
+refusal_is wanted f g e h = subst (λ (x : CloseFault). IsCloseRefusal wanted x) e h
 
 -- a channel that was closed and then dropped
 dropped : (s : Slot Tree) → function_ended_slot (closed_slot s) ≡ function_ended_slot s

@@ -37,13 +37,13 @@ all_said [] = []
 all_said (g ∷ h) = all_said h ++ (turn_by (worker_after h) g).talk.says
 
 -- A test that runs, or that is started, is one of the suite that was read.
-pub record KnownTests : Type 0 where
+pub record WorkerKnowsTests : Type 0 where
   pub runs : (h : List HeardInput) (k : ℕ) → running_in (worker_after h).duties.service ≡ Some k → k < length (worker_after h).duties.tests
   pub starts : (h : List HeardInput) (g : HeardInput) (k : ℕ) → (turn_by (worker_after h) g).run ≡ Some k → k < length (worker_after (g ∷ h)).duties.tests
 
 -- the worker is to end, and no test runs
-abbrev pub is_over : Worker → Bool
-is_over w = w.duties.stopped && is_none (running_in w.duties.service)
+abbrev pub is_worker_over : Worker → Bool
+is_worker_over w = w.duties.stopped && is_none (running_in w.duties.service)
 
 -- why there is no suite, in words
 abbrev pub IsFaultText : List ℕ → List ℕ → Type 0
@@ -95,6 +95,6 @@ RefusesFor w (Message m) fault = RefusedBy w.table.fault w.table m fault
 RefusesFor w _ fault = ⊥
 
 -- a message that is to be refused
-abbrev pub IsToRefuse : Worker → WorkerInput → SideFault → Type 0
-IsToRefuse w (Message m) fault = MustRefuse w.table.fault w.table m fault
-IsToRefuse w _ fault = ⊥
+abbrev pub IsInputToRefuse : Worker → WorkerInput → SideFault → Type 0
+IsInputToRefuse w (Message m) fault = MustRefuse w.table.fault w.table m fault
+IsInputToRefuse w _ fault = ⊥

@@ -4,7 +4,7 @@ use Rattle.xd_factory.specs.declared.faults.SideFault.{SideFault}
 use Rattle.xd_factory.specs.declared.faults.SideFault.TheVariants as side
 use Rattle.xd_suite.specs.declared.test.Test.{Test}
 use Rattle.xd_run_tests.specs.declared.input.Input.{Input}
-use Rattle.xd_run_tests.specs.History.{Given, turn_after, StandsFor as Follows}
+use Rattle.xd_run_tests.specs.History.{Given, turn_after, StandsForGiven as Follows}
 use Rattle.xd_value.specs.Tree.{Tree}
 use Rattle.xd_value.specs.declared.value.Value.{Value}
 use Rattle.xd_frame.specs.Message.{MessageView}
@@ -25,7 +25,7 @@ use Rattle.xd_worker.specs.Talk.{talk_of}
 use Rattle.xd_worker.specs.Worker.{Service, Duties, Worker, WorkerTurn, after_turn, running_in}
 use Rattle.xd_worker.specs.Turns.{given_in}
 use Rattle.xd_factory.specs.SideTable.{RefusedBy, MustRefuse}
-use Rattle.xd_worker.specs.History.{HeardInput, Is, table_after, turn_by, worker_after, is_over, RefusesFor}
+use Rattle.xd_worker.specs.History.{HeardInput, Is, table_after, turn_by, worker_after, is_worker_over, RefusesFor}
 
 -- the parts are those of this call of `run_tests`
 pub record IsService (r : TestsCall) (s : Service) : Type 0 where
@@ -56,7 +56,7 @@ pub record AreDuties (c : WorkerCore) (d : Duties) : Type 0 where
   pub tests_are : suite_tests_of c.suite ≡ d.tests
 
 -- the parts, and what was done so far, are those of a turn
-pub record Stands (c : WorkerCore) (a : WorkerActions) (t : WorkerTurn) : Type 0 where
+pub record IsWorkerTurn (c : WorkerCore) (a : WorkerActions) (t : WorkerTurn) : Type 0 where
   pub talk_is : talk_of c.side a.say ≡ t.talk
   pub duties_are : AreDuties c t.duties
   pub suite_is : a.suite ≡ t.suite
@@ -69,23 +69,23 @@ pub record IsWorker (c : WorkerCore) (w : Worker) : Type 0 where
   pub duties_are : AreDuties c w.duties
 
 -- the parts are those of the worker after these inputs
-abbrev pub StandsFor : WorkerCore → List HeardInput → Type 0
-StandsFor c h = IsWorker c (worker_after h)
+abbrev pub StandsForInputs : WorkerCore → List HeardInput → Type 0
+StandsForInputs c h = IsWorker c (worker_after h)
 
 -- they are those of the worker after some inputs
 abbrev pub Stood : WorkerCore → Type 0
-Stood c = (h : List HeardInput) × StandsFor c h
+Stood c = (h : List HeardInput) × StandsForInputs c h
 
 -- the suite that was read has a test of this number
 abbrev pub HasTest : WorkerCore → ℕ → Type 0
-HasTest c k = (h : List HeardInput) × StandsFor c h × (k < length (worker_after h).duties.tests)
+HasTest c k = (h : List HeardInput) × StandsForInputs c h × (k < length (worker_after h).duties.tests)
 
 -- an input was answered by the turn that it makes
 pub record Does (c : WorkerCore) (a : WorkerActions) (w : Worker) (input : WorkerInput) : Type 0 where
   pub heard : HeardInput
   pub is : Is input heard.came
   pub counts : Counts (table_after heard.came w.table).slot heard.channels
-  pub stands : Stands c a (turn_by w heard)
+  pub stands : IsWorkerTurn c a (turn_by w heard)
 
 -- what an input is, and that it was answered by the turn that it makes of this worker
 pub record Answers (c : WorkerCore) (w : Worker) (input : WorkerInput) (a : WorkerActions) : Type 0 where
@@ -95,7 +95,7 @@ pub record Answers (c : WorkerCore) (w : Worker) (input : WorkerInput) (a : Work
   pub says : a.say ≡ (turn_by w heard).talk.says
   pub suite : a.suite ≡ (turn_by w heard).suite
   pub run : a.run ≡ (turn_by w heard).run
-  pub over : a.over ≡ is_over (after_turn (turn_by w heard))
+  pub over : a.over ≡ is_worker_over (after_turn (turn_by w heard))
   pub worker : IsWorker c (after_turn (turn_by w heard))
 
 -- a fault names its reason; running out of memory needs none

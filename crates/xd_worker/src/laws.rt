@@ -1,10 +1,10 @@
 // Facts about the definitions.
-ghost use Rattle.xd_worker.specs.History.{KnownTests};
+ghost use Rattle.xd_worker.specs.History.{WorkerKnowsTests};
 ghost use Rattle.xd_worker.specs.Logs.{LogLaw};
 
 /// Whatever comes, a test that runs or that is started is one of the suite that was read.
 pub fn a_test_is_of_the_suite()
-    ensures { KnownTests }
+    ensures { WorkerKnowsTests }
 {}
 
 /// Whatever comes, each log can open where the start of its test names it: its number is the side's next one, the link has

@@ -47,13 +47,13 @@ impl WorkerCore {
     ghost use Rattle.xd_factory.specs.SideTable.{Counts};
     ghost use Rattle.xd_worker.specs.Worker.{Service, Duties, Worker, WorkerTurn, worker_turn_of, running_in};
     ghost use Rattle.xd_worker.specs.Turns.{asked, all_asked, ended_service, fed, worker_stopped};
-    ghost use Rattle.xd_worker.specs.History.{HeardInput, worker_after, IsToRefuse};
+    ghost use Rattle.xd_worker.specs.History.{HeardInput, worker_after, IsInputToRefuse};
     ghost use Rattle.xd_worker.specs.Logs.{AllOpen, LogsOpen};
-    ghost use Rattle.xd_worker.specs.Stands.{AreServices, AreDuties, HasTest, Stands, StandsFor, Stood, IsWorker, Does, Answers, AskedAtFault, FaultHasReason, IsThisFault, unanswered_of, fault_in};
+    ghost use Rattle.xd_worker.specs.Stands.{AreServices, AreDuties, HasTest, IsWorkerTurn, StandsForInputs, Stood, IsWorker, Does, Answers, AskedAtFault, FaultHasReason, IsThisFault, unanswered_of, fault_in};
 
     /// A worker to which nothing has come yet.
     pub fn new(alloc: Global) -> WorkerCore
-        ensures history { StandsFor result [] }
+        ensures history { StandsForInputs result [] }
         ensures stood { Stood result }
     {
         WorkerCore {
@@ -71,16 +71,16 @@ impl WorkerCore {
 
     /// One input. After a fault each input is answered by the same fault.
     pub fn step(&mut self, input: WorkerInput) -> Result<WorkerActions, WorkerFault>
-        ensures answers { (h : List HeardInput) → StandsFor self.old h →
+        ensures answers { (h : List HeardInput) → StandsForInputs self.old h →
             IfOk result (Answers self.new (worker_after h) input) }
-        ensures refused { (h : List HeardInput) → StandsFor self.old h →
+        ensures refused { (h : List HeardInput) → StandsForInputs self.old h →
             IfErr result (FaultHasReason (worker_after h) input) }
-        ensures refuses { (h : List HeardInput) (fault : SideFault) → StandsFor self.old h →
-            IsToRefuse (worker_after h) input fault → IsThisFault fault result }
+        ensures refuses { (h : List HeardInput) (fault : SideFault) → StandsForInputs self.old h →
+            IsInputToRefuse (worker_after h) input fault → IsThisFault fault result }
         ensures failed { (fault : WorkerFault) → fault_in self.old ≡ Some fault →
             (result ≡ Err fault) × (self.new ≡ self.old) }
         ensures fails { IfErr result (λ fault. fault_in self.new ≡ Some fault) }
-        ensures asked { (h : List HeardInput) → StandsFor self.old h →
+        ensures asked { (h : List HeardInput) → StandsForInputs self.old h →
             IfErr result (λ fault. AskedAtFault self.new (worker_after h)) }
         ensures stood { Stood self.old → OnOk result (Stood self.new) }
         ensures command { Stood self.old →
@@ -115,7 +115,7 @@ impl WorkerCore {
         ensures refused { (w : Worker) → IsWorker self.old w →
             IfErr result (FaultHasReason w input) }
         ensures refuses { (w : Worker) (fault : SideFault) → IsWorker self.old w →
-            IsToRefuse w input fault → IsThisFault fault result }
+            IsInputToRefuse w input fault → IsThisFault fault result }
     {
         let mut acts = WorkerActions {
             say: Messages {
@@ -134,12 +134,12 @@ impl WorkerCore {
     }
 
     fn take(&mut self, acts: &mut WorkerActions, input: WorkerInput) -> Result<(), WorkerFault>
-        ensures does { (w : Worker) → Stands self.old acts.old (worker_turn_of w) → LogsOpen w →
+        ensures does { (w : Worker) → IsWorkerTurn self.old acts.old (worker_turn_of w) → LogsOpen w →
             OnOk result (Does self.new acts.new w input) }
-        ensures refused { (w : Worker) → Stands self.old acts.old (worker_turn_of w) →
+        ensures refused { (w : Worker) → IsWorkerTurn self.old acts.old (worker_turn_of w) →
             IfErr result (FaultHasReason w input) }
-        ensures refuses { (w : Worker) (fault : SideFault) → Stands self.old acts.old (worker_turn_of w) →
-            IsToRefuse w input fault → IsThisFault fault result }
+        ensures refuses { (w : Worker) (fault : SideFault) → IsWorkerTurn self.old acts.old (worker_turn_of w) →
+            IsInputToRefuse w input fault → IsThisFault fault result }
     {
         match input {
             WorkerInput::Message(message) => self.take_message(acts, message),
@@ -173,7 +173,7 @@ impl WorkerCore {
     /// A suite file was asked for, and neither its bytes nor a refusal came yet. After a fault it says what it said
     /// before.
     pub fn awaits_suite(&self) -> bool
-        ensures owed { (h : List HeardInput) → StandsFor self.now h →
+        ensures owed { (h : List HeardInput) → StandsForInputs self.now h →
             result ≡ (worker_after h).duties.owed }
         ensures at_fault { (w : Worker) → AskedAtFault self.now w → result ≡ w.duties.owed }
     {
@@ -185,9 +185,9 @@ impl WorkerCore {
 
     /// The test that runs. After a fault it says what it said before.
     pub fn runs(&self) -> Option<u32>
-        ensures running { (h : List HeardInput) → StandsFor self.now h →
+        ensures running { (h : List HeardInput) → StandsForInputs self.now h →
             result ≡ running_in (worker_after h).duties.service }
-        ensures command { (h : List HeardInput) (test : ℕ) → StandsFor self.now h → result ≡ Some test →
+        ensures command { (h : List HeardInput) (test : ℕ) → StandsForInputs self.now h → result ≡ Some test →
             HasTest self.now test }
         ensures at_fault { (w : Worker) → AskedAtFault self.now w →
             result ≡ running_in w.duties.service }
@@ -229,7 +229,7 @@ impl WorkerCore {
     /// The program of a test of the suite that was read, with its arguments.
     pub fn command(&self, test: u32) -> &[Text]
         requires { HasTest self.now test }
-        ensures run { (h : List HeardInput) → StandsFor self.now h →
+        ensures run { (h : List HeardInput) → StandsForInputs self.now h →
             result.now ≡ run_at (worker_after h).duties.tests test }
         ensures program { 0 < length result.now }
     {
@@ -248,8 +248,8 @@ impl WorkerCore {
 
     // The function of `run_tests` has ended.
     fn end_service(&mut self)
-        ensures { (a : WorkerActions) (t : WorkerTurn) → Stands self.old a t →
-            Stands self.new a (ended_service t) }
+        ensures { (a : WorkerActions) (t : WorkerTurn) → IsWorkerTurn self.old a t →
+            IsWorkerTurn self.new a (ended_service t) }
     {
         if let Some(tests_call) = &mut self.tests_call {
             tests_call.ended = true;
@@ -258,8 +258,8 @@ impl WorkerCore {
 
     // Does what `run_tests` asks for.
     fn carry(&mut self, acts: &mut WorkerActions, channel: u32, ask: Ask) -> Result<(), OutOfMemory>
-        ensures { (t : WorkerTurn) → Stands self.old acts.old t → AllOpen (asked channel ask t).logs →
-            OnOk result (Stands self.new acts.new (asked channel ask t)) }
+        ensures { (t : WorkerTurn) → IsWorkerTurn self.old acts.old t → AllOpen (asked channel ask t).logs →
+            OnOk result (IsWorkerTurn self.new acts.new (asked channel ask t)) }
     {
         match ask {
             Ask::Tell(event) => {
@@ -288,9 +288,9 @@ impl WorkerCore {
         channel: u32,
         asks: Vec<Ask>,
     ) -> Result<(), OutOfMemory>
-        ensures { (t : WorkerTurn) → Stands self.old acts.old t →
+        ensures { (t : WorkerTurn) → IsWorkerTurn self.old acts.old t →
             AllOpen (all_asked channel asks.items t).logs →
-            OnOk result (Stands self.new acts.new (all_asked channel asks.items t)) }
+            OnOk result (IsWorkerTurn self.new acts.new (all_asked channel asks.items t)) }
     {
         for ask in asks {
             self.carry(acts, channel, ask)?;
@@ -306,8 +306,8 @@ impl WorkerCore {
         channels: u32,
     ) -> Result<(), OutOfMemory>
         requires { CanTake input }
-        ensures { (t : WorkerTurn) → Stands self.old acts.old t → AllOpen (fed input channels t).logs →
-            OnOk result (Stands self.new acts.new (fed input channels t)) }
+        ensures { (t : WorkerTurn) → IsWorkerTurn self.old acts.old t → AllOpen (fed input channels t).logs →
+            OnOk result (IsWorkerTurn self.new acts.new (fed input channels t)) }
     {
         let Some(fed) = feed(&mut self.tests_call, input, channels)? else {
             return Ok(());
@@ -319,8 +319,8 @@ impl WorkerCore {
 
     // Nothing is said any more, and no test starts.
     fn stop(&mut self, acts: &mut WorkerActions, channels: u32) -> Result<(), OutOfMemory>
-        ensures { (t : WorkerTurn) → Stands self.old acts.old t → AllOpen (worker_stopped channels t).logs →
-            OnOk result (Stands self.new acts.new (worker_stopped channels t)) }
+        ensures { (t : WorkerTurn) → IsWorkerTurn self.old acts.old t → AllOpen (worker_stopped channels t).logs →
+            OnOk result (IsWorkerTurn self.new acts.new (worker_stopped channels t)) }
     {
         self.stopped = true;
         self.feed(acts, Input::Stop, channels)?;

@@ -17,7 +17,7 @@ use Rattle.xd_run_tests.specs.declared.phase.Phase.TheVariants as phase
 use Rattle.xd_run_tests.specs.declared.ask.Ask.TheVariants.{Tell}
 use Rattle.xd_run_tests.specs.declared.input.Input.{Input}
 use Rattle.xd_run_tests.specs.declared.input.Input.TheVariants as input
-use Rattle.xd_run_tests.specs.Line.{left, front, queue, running_test, can_give, can_ask, all_queued, kept, taken}
+use Rattle.xd_run_tests.specs.Line.{left, front, queue, running_test, can_give, can_ask, all_queued, kept, stolen_tests}
 use Rattle.xd_run_tests.specs.Turns.{CallTurn, call_turn_of, answered, over, ended_early, ending_text, asking, test_started, has_log, too_many_channels, moved_on, line_settled, given, stolen, stolen_if, told, item_heard_in, item_heard, all_heard, collected_in, receiving_ended_in, suite_refused_in, output_fed, told_done, done_of}
 use Rattle.xd_run_tests.specs.History.{call_after}
 use Rattle.xd_worker_laws.specs.Idle.{IsIdle, IdleLaw, WaitsForNext}
@@ -91,7 +91,7 @@ taken_back ns t w serving idle =
 stole : (ns : List ℕ) (t : CallTurn) → Waits t → Waits (stolen_if ns t)
 stole ns t w = ask (can_ask t.call.size [] ns)
   where
-    go : (v : Bool) → Waits (if v then asking (Tell (Back (taken ns (queue t.call))) ∷ []) (record t { call = record (t.call) { line = front t.call ++ kept ns (queue t.call) } }) else asking (Tell (Back []) ∷ []) t)
+    go : (v : Bool) → Waits (if v then asking (Tell (Back (stolen_tests ns (queue t.call))) ∷ []) (record t { call = record (t.call) { line = front t.call ++ kept ns (queue t.call) } }) else asking (Tell (Back []) ∷ []) t)
     go true = taken_back ns t w
     go false = w
 

@@ -4,10 +4,10 @@ ghost use Rattle.xd_value.specs.Tree.{text};
 ghost use Rattle.xd_value.specs.View.{view};
 ghost use Rattle.xd_value.specs.Canonical.{dumped};
 ghost use Rattle.xd_value.specs.Payload.{IsPayload};
-ghost use Rattle.xd_channel.specs.State.{fresh};
+ghost use Rattle.xd_channel.specs.State.{fresh_end};
 ghost use Rattle.xd_factory.specs.Slot.{Unseen, Here, is_seen, closed_slot, given_up_slot, give_up_says, function_ended_slot, received_slot, receive_answer, hooked_slot, hook_fault, hook_items, hook_end};
 ghost use Rattle.xd_factory.specs.Trees.{IsGot, received_trees, hooked_trees};
-ghost use Rattle.xd_factory.specs.Table.{closing_message, is_long, close_gives_at, close_says, close_refusal, close_fault_of, HasErrorPayload, IsRefusal, giving_says, send_refusal, sent_gives, IsSent};
+ghost use Rattle.xd_factory.specs.Table.{closing_message, is_long, close_gives_at, close_says, close_refusal, close_fault_of, HasErrorPayload, IsCloseRefusal, giving_says, send_refusal, sent_gives, IsSent};
 
 use super::{MAX_ENTRIES, MAX_NUMBER, Side};
 use crate::{CloseFault, HookFault, OpenFault, SendFault, Unknown};
@@ -28,7 +28,7 @@ impl Side {
         ensures next { OnOk result (next_of self.new ≡ next_of self.old + 2) }
         ensures unseen { IfOk result (λ n. slot_of_number self.old n ≡ Unseen) }
         ensures slots { IfOk result (λ n. (c : ℕ) →
-            slot_of_number self.new c ≡ (if n == c then Here fresh else slot_of_number self.old c)) }
+            slot_of_number self.new c ≡ (if n == c then Here fresh_end else slot_of_number self.old c)) }
         ensures history { (h : List Act) → SideStands self.old h →
             IfOk result (λ n. SideStands self.new (Open_channel n ∷ h)) }
         ensures rest { (parity_of self.new ≡ parity_of self.old)
@@ -98,7 +98,7 @@ impl Side {
             (close_refusal (is_seen (slot_of_number self.old number)) (is_long error) ≡ None) }
         ensures payload { OnOk result (HasErrorPayload error) }
         ensures refused { IfErr result
-            (IsRefusal (close_refusal (is_seen (slot_of_number self.old number)) (is_long error))) }
+            (IsCloseRefusal (close_refusal (is_seen (slot_of_number self.old number)) (is_long error))) }
         ensures slots { OnOk result ((c : ℕ) →
             slot_of_number self.new c ≡ (if number == c then closed_slot
             (slot_of_number self.old c) else slot_of_number self.old c)) }
@@ -125,7 +125,7 @@ impl Side {
             (close_refusal (is_seen (slot_of_number self.old number)) (is_long error) ≡ None) }
         ensures payload { OnOk result (HasErrorPayload error) }
         ensures refused { IfErr result
-            (IsRefusal (close_refusal (is_seen (slot_of_number self.old number)) (is_long error))) }
+            (IsCloseRefusal (close_refusal (is_seen (slot_of_number self.old number)) (is_long error))) }
         ensures slots { OnOk result ((c : ℕ) →
             slot_of_number self.new c ≡ (if number == c then function_ended_slot
             (slot_of_number self.old c) else slot_of_number self.old c)) }
@@ -310,7 +310,7 @@ fn closing_of(alloc: Global, number: u32, error: Option<Text>) -> Result<Message
     ensures message { IfOk result (λ m. m ≡ closing_message number error) }
     ensures short { OnOk result (is_long error ≡ false) }
     ensures payload { OnOk result (HasErrorPayload error) }
-    ensures refused { IfErr result (IsRefusal (close_refusal true (is_long error))) }
+    ensures refused { IfErr result (IsCloseRefusal (close_refusal true (is_long error))) }
 {
     match error {
         None => Ok(Message::of(Kind::Close, number, empty(alloc))),

@@ -4,7 +4,7 @@ ghost use Rattle.xd_value.specs.View.{view};
 ghost use Rattle.xd_frame.specs.Message.{max_channel};
 ghost use Rattle.xd_value.specs.Canonical.{dumped, IsDump};
 ghost use Rattle.xd_factory.specs.Slot.{is_here, is_seen};
-ghost use Rattle.xd_factory.specs.Table.{is_long, close_refusal, send_refusal, sent_gives, IsRefusal, IsSent};
+ghost use Rattle.xd_factory.specs.Table.{is_long, close_refusal, send_refusal, sent_gives, IsCloseRefusal, IsSent};
 
 use super::{GiveUpFault, LinkedSide, say, say_any};
 use std::alloc::Global;
@@ -112,7 +112,7 @@ impl LinkedSide {
     pub fn close(&mut self, number: u32, error: Option<Text>) -> Result<(), CloseFault>
         ensures step { OnOk result (IsMove self.old self.new (Close number error)) }
         ensures refused { IfErr result
-            (IsRefusal (close_refusal (is_seen (slot_of_number self.old.side number))
+            (IsCloseRefusal (close_refusal (is_seen (slot_of_number self.old.side number))
             (is_long error))) }
         ensures accepted { OnOk result
             (close_refusal (is_seen (slot_of_number self.old.side number)) (is_long error) ≡ None) }
@@ -134,7 +134,7 @@ impl LinkedSide {
     pub fn end_function(&mut self, number: u32, error: Option<Text>) -> Result<(), CloseFault>
         ensures step { OnOk result (IsMove self.old self.new (End_function number error)) }
         ensures refused { IfErr result
-            (IsRefusal (close_refusal (is_seen (slot_of_number self.old.side number))
+            (IsCloseRefusal (close_refusal (is_seen (slot_of_number self.old.side number))
             (is_long error))) }
         ensures accepted { OnOk result
             (close_refusal (is_seen (slot_of_number self.old.side number)) (is_long error) ≡ None) }

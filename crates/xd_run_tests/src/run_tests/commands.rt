@@ -15,7 +15,7 @@ impl RunTests {
     ghost use Rattle.std.specs.List.{range_with_len};
     ghost use Rattle.xd_gateway.specs.declared.order.Order.TheVariants.{Shutdown};
     ghost use Rattle.xd_run_tests.specs.Turns.{CallTurn, given, told, item_heard_in, all_heard};
-    ghost use Rattle.xd_run_tests.specs.Stands.{Stands, Appends, free_at};
+    ghost use Rattle.xd_run_tests.specs.Stands.{IsCallTurn, Appends, free_at};
 
     /// The test is one of the suite that does not stand in the line.
     fn is_free(&self, test: u32) -> bool
@@ -63,8 +63,8 @@ impl RunTests {
 
     /// Tests are given: they stand at the line's end, or the command is bad.
     fn give(&mut self, acts: &mut Acts, tests: &[u32], room: bool) -> Result<(), OutOfMemory>
-        ensures { (t : CallTurn) → t.call.phase ≡ Serving → Stands self.old acts.old t →
-            OnOk result (Stands self.new acts.new (given room tests.now t)) }
+        ensures { (t : CallTurn) → t.call.phase ≡ Serving → IsCallTurn self.old acts.old t →
+            OnOk result (IsCallTurn self.new acts.new (given room tests.now t)) }
     {
         if self.append_all(tests)? {
             self.settle(acts, room)
@@ -87,8 +87,8 @@ impl RunTests {
 
     /// A shutdown mark stands at the line's end.
     fn shut(&mut self, acts: &mut Acts, room: bool) -> Result<(), OutOfMemory>
-        ensures { (t : CallTurn) → t.call.phase ≡ Serving → Stands self.old acts.old t →
-            OnOk result (Stands self.new acts.new (told room (Some Shutdown) t)) }
+        ensures { (t : CallTurn) → t.call.phase ≡ Serving → IsCallTurn self.old acts.old t →
+            OnOk result (IsCallTurn self.new acts.new (told room (Some Shutdown) t)) }
     {
         self.mark()?;
         self.settle(acts, room)
@@ -107,8 +107,8 @@ impl RunTests {
 
     /// An item of the channel while the function serves.
     fn tell(&mut self, acts: &mut Acts, item: Option<Order>, room: bool) -> Result<(), OutOfMemory>
-        ensures { (t : CallTurn) → t.call.phase ≡ Serving → Stands self.old acts.old t →
-            OnOk result (Stands self.new acts.new (told room item t)) }
+        ensures { (t : CallTurn) → t.call.phase ≡ Serving → IsCallTurn self.old acts.old t →
+            OnOk result (IsCallTurn self.new acts.new (told room item t)) }
     {
         match item {
             None => self.end_early(acts, Ending::BadCommand),
@@ -129,8 +129,8 @@ impl RunTests {
         item: Option<Order>,
         room: bool,
     ) -> Result<(), OutOfMemory>
-        ensures { (t : CallTurn) → t.call.phase ≡ self.old.phase → Stands self.old acts.old t →
-            OnOk result (Stands self.new acts.new (item_heard_in self.old.phase room item t)) }
+        ensures { (t : CallTurn) → t.call.phase ≡ self.old.phase → IsCallTurn self.old acts.old t →
+            OnOk result (IsCallTurn self.new acts.new (item_heard_in self.old.phase room item t)) }
     {
         match self.phase {
             Phase::Awaiting => {
@@ -149,8 +149,8 @@ impl RunTests {
         mut waiting: VecDeque<Option<Order>>,
         room: bool,
     ) -> Result<(), OutOfMemory>
-        ensures { (t : CallTurn) → Stands self.old acts.old t →
-            OnOk result (Stands self.new acts.new (all_heard room waiting.items t)) }
+        ensures { (t : CallTurn) → IsCallTurn self.old acts.old t →
+            OnOk result (IsCallTurn self.new acts.new (all_heard room waiting.items t)) }
     {
         while let Some(item) = waiting.pop_front() {
             self.hear(acts, item, room)?;

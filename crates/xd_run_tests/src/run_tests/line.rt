@@ -14,12 +14,12 @@ impl RunTests {
     ghost use Rattle.xd_run_tests.specs.declared.phase.Phase.TheVariants.{Serving};
     ghost use Rattle.xd_run_tests.specs.Line.{FunctionCall, left};
     ghost use Rattle.xd_run_tests.specs.Turns.{CallTurn, over, ended_early, line_settled, moved_on, too_many_channels, ending_text};
-    ghost use Rattle.xd_run_tests.specs.Stands.{Stands, Moves, HoldsInAnyPhase, IsCall, passing_some};
+    ghost use Rattle.xd_run_tests.specs.Stands.{IsCallTurn, Moves, HoldsInAnyPhase, IsCall, passing_some};
 
     /// The function ends.
     pub(super) fn finish(&mut self, acts: &mut Acts, text: Option<Text>) -> Result<(), OutOfMemory>
         ensures { (t : CallTurn) → HoldsInAnyPhase self.old acts.old t →
-            OnOk result (Stands self.new acts.new (over text t)) }
+            OnOk result (IsCallTurn self.new acts.new (over text t)) }
     {
         request(acts, Ask::End(text))?;
         self.phase = Phase::Over;
@@ -38,7 +38,7 @@ impl RunTests {
     /// An early end, which waits for the running test.
     pub(super) fn end_early(&mut self, acts: &mut Acts, ending: Ending) -> Result<(), OutOfMemory>
         ensures { (t : CallTurn) → HoldsInAnyPhase self.old acts.old t →
-            OnOk result (Stands self.new acts.new (ended_early ending t)) }
+            OnOk result (IsCallTurn self.new acts.new (ended_early ending t)) }
     {
         if self.running.is_some() {
             self.phase = Phase::Ending(ending);
@@ -92,7 +92,7 @@ impl RunTests {
         ensures { (t : CallTurn) (p : LineEntry) (q : List LineEntry) → t.call.phase ≡ Serving →
             self.old.running ≡ None → self.old.next ≡ Some (Test test) →
             self.old.queue.items ≡ p ∷ q → Moves self.old acts.old t →
-            OnOk result (Stands self.new acts.new (moved_on room (Test test ∷ (p ∷ q)) t)) }
+            OnOk result (IsCallTurn self.new acts.new (moved_on room (Test test ∷ (p ∷ q)) t)) }
     {
         if room && self.next_log <= 2147483647 {
             let log = self.next_log;
@@ -112,8 +112,8 @@ impl RunTests {
     /// Where nothing runs, a mark that is reached ends the function, and a test with an entry after it starts.
     fn move_on(&mut self, acts: &mut Acts, room: bool) -> Result<(), OutOfMemory>
         ensures { (t : CallTurn) → t.call.phase ≡ Serving → self.old.running ≡ None →
-            Stands self.old acts.old t →
-            OnOk result (Stands self.new acts.new (moved_on room (left t.call) t)) }
+            IsCallTurn self.old acts.old t →
+            OnOk result (IsCallTurn self.new acts.new (moved_on room (left t.call) t)) }
     {
         match self.next {
             None => Ok(()),
@@ -133,7 +133,7 @@ impl RunTests {
 
     pub(super) fn settle(&mut self, acts: &mut Acts, room: bool) -> Result<(), OutOfMemory>
         ensures { (t : CallTurn) → t.call.phase ≡ Serving → Moves self.old acts.old t →
-            OnOk result (Stands self.new acts.new (line_settled room t)) }
+            OnOk result (IsCallTurn self.new acts.new (line_settled room t)) }
     {
         if self.running.is_some() {
             return Ok(());

@@ -9,7 +9,7 @@ use xd_journal::{MOST_OF_ONE, Outcome, What};
 
 impl RunTests {
     ghost use Rattle.xd_run_tests.specs.Turns.{CallTurn, done_of, told_done, put_out, output_fed};
-    ghost use Rattle.xd_run_tests.specs.Stands.{Stands, test_of_running, Moves};
+    ghost use Rattle.xd_run_tests.specs.Stands.{IsCallTurn, test_of_running, Moves};
 
     /// The running test ended.
     pub(super) fn complete(
@@ -19,8 +19,8 @@ impl RunTests {
         ms: u64,
         room: bool,
     ) -> Result<(), OutOfMemory>
-        ensures { (t : CallTurn) → Stands self.old acts.old t →
-            OnOk result (Stands self.new acts.new
+        ensures { (t : CallTurn) → IsCallTurn self.old acts.old t →
+            OnOk result (IsCallTurn self.new acts.new
             (done_of (test_of_running self.old.running) self.old.phase room outcome ms t)) }
     {
         match self.running {
@@ -51,7 +51,7 @@ impl RunTests {
         outcome: Outcome,
         ms: u64,
     ) -> Result<(), OutOfMemory>
-        ensures { (t : CallTurn) → self.old.running ≡ Some running → Stands self.old acts.old t →
+        ensures { (t : CallTurn) → self.old.running ≡ Some running → IsCallTurn self.old acts.old t →
             OnOk result (Moves self.new acts.new (told_done running.test outcome ms t)) }
     {
         let close = Ask::CloseLog { log: running.log };
@@ -73,8 +73,8 @@ impl RunTests {
         running: Running,
         bytes: Blob,
     ) -> Result<(), OutOfMemory>
-        ensures { (t : CallTurn) → self.old.running ≡ Some running → Stands self.old acts.old t →
-            OnOk result (Stands self.new acts.new (put_out bytes t)) }
+        ensures { (t : CallTurn) → self.old.running ≡ Some running → IsCallTurn self.old acts.old t →
+            OnOk result (IsCallTurn self.new acts.new (put_out bytes t)) }
     {
         let all = bytes.as_slice();
         let left = (MOST_OF_ONE as usize).saturating_sub(self.sent);
@@ -94,8 +94,8 @@ impl RunTests {
     }
 
     pub(super) fn hear_output(&mut self, acts: &mut Acts, bytes: Blob) -> Result<(), OutOfMemory>
-        ensures { (t : CallTurn) → Stands self.old acts.old t →
-            OnOk result (Stands self.new acts.new
+        ensures { (t : CallTurn) → IsCallTurn self.old acts.old t →
+            OnOk result (IsCallTurn self.new acts.new
             (output_fed (test_of_running self.old.running) self.old.phase bytes t)) }
     {
         match self.running {

@@ -37,7 +37,7 @@ impl RunTests {
     ghost use Rattle.xd_run_tests.specs.declared.line_entry.Standing.TheVariants.{Free};
     ghost use Rattle.xd_run_tests.specs.Line.{left};
     ghost use Rattle.xd_run_tests.specs.Turns.{CallTurn, stolen_if};
-    ghost use Rattle.xd_run_tests.specs.Stands.{Stands, queued_at, IsAsked, AreMarked, TakenOut};
+    ghost use Rattle.xd_run_tests.specs.Stands.{IsCallTurn, queued_at, IsAsked, AreMarked, TakenOut};
 
     /// Which tests a steal asks for.
     fn asked_tests(&self, tests: &[u32]) -> Result<Asked, OutOfMemory>
@@ -130,8 +130,8 @@ impl RunTests {
 
     /// Asked tests go back, where all of them are in the queue.
     pub(super) fn steal(&mut self, acts: &mut Acts, tests: &[u32]) -> Result<(), OutOfMemory>
-        ensures { (t : CallTurn) → t.call.phase ≡ Serving → Stands self.old acts.old t →
-            OnOk result (Stands self.new acts.new (stolen_if tests.now t)) }
+        ensures { (t : CallTurn) → t.call.phase ≡ Serving → IsCallTurn self.old acts.old t →
+            OnOk result (IsCallTurn self.new acts.new (stolen_if tests.now t)) }
     {
         match self.asked_tests(tests)? {
             Asked::Bad => self.end_early(acts, Ending::BadCommand),

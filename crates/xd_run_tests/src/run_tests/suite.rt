@@ -13,12 +13,12 @@ use xd_journal::What;
 impl RunTests {
     ghost use Rattle.xd_run_tests.specs.Line.{FunctionCall};
     ghost use Rattle.xd_run_tests.specs.Turns.{CallTurn, receiving_ended_in, suite_refused_in, call_stopped, collected_in, serving_suite};
-    ghost use Rattle.xd_run_tests.specs.Stands.{Stands, IsCall};
+    ghost use Rattle.xd_run_tests.specs.Stands.{IsCallTurn, IsCall};
 
     /// The receiving direction of the channel ended.
     pub(super) fn end_hearing(&mut self, acts: &mut Acts) -> Result<(), OutOfMemory>
-        ensures { (t : CallTurn) → Stands self.old acts.old t →
-            OnOk result (Stands self.new acts.new (receiving_ended_in self.old.phase t)) }
+        ensures { (t : CallTurn) → IsCallTurn self.old acts.old t →
+            OnOk result (IsCallTurn self.new acts.new (receiving_ended_in self.old.phase t)) }
     {
         match self.phase {
             Phase::Awaiting | Phase::Serving => self.end_early(acts, Ending::ReceivingEnded),
@@ -28,8 +28,8 @@ impl RunTests {
 
     /// The suite cannot be taken.
     pub(super) fn refuse(&mut self, acts: &mut Acts, text: Text) -> Result<(), OutOfMemory>
-        ensures { (t : CallTurn) → Stands self.old acts.old t →
-            OnOk result (Stands self.new acts.new (suite_refused_in self.old.phase text t)) }
+        ensures { (t : CallTurn) → IsCallTurn self.old acts.old t →
+            OnOk result (IsCallTurn self.new acts.new (suite_refused_in self.old.phase text t)) }
     {
         match self.phase {
             Phase::Awaiting => self.finish(acts, Some(text)),
@@ -39,7 +39,7 @@ impl RunTests {
 
     /// GATEWAY_TERMINATE or the end of the link.
     pub(super) fn stop(&mut self)
-        ensures { (a : Acts) (t : CallTurn) → Stands self.old a t → Stands self.new a (call_stopped t) }
+        ensures { (a : Acts) (t : CallTurn) → IsCallTurn self.old a t → IsCallTurn self.new a (call_stopped t) }
     {
         self.phase = Phase::Stopped;
     }
@@ -52,8 +52,8 @@ impl RunTests {
         room: bool,
     ) -> Result<(), OutOfMemory>
         requires { length ids < 2 ^ 32 }
-        ensures { (t : CallTurn) → Stands self.old acts.old t →
-            OnOk result (Stands self.new acts.new (collected_in self.old.phase room ids t)) }
+        ensures { (t : CallTurn) → IsCallTurn self.old acts.old t →
+            OnOk result (IsCallTurn self.new acts.new (collected_in self.old.phase room ids t)) }
     {
         match self.phase {
             Phase::Awaiting => {

@@ -17,7 +17,7 @@ impl WorkerCore {
     ghost use Rattle.xd_gateway.specs.declared.function.Called.TheVariants.{Runs};
     ghost use Rattle.xd_worker.specs.Worker.{WorkerTurn};
     ghost use Rattle.xd_worker.specs.Turns.{refused, failed, echo_begun, tests_begun, called, is_called, without_one, echo_ended, echoed};
-    ghost use Rattle.xd_worker.specs.Stands.{Stands};
+    ghost use Rattle.xd_worker.specs.Stands.{IsWorkerTurn};
 
     fn error_of(&self, fault: CallFault) -> Result<Text, OutOfMemory>
         ensures { IfOk result (λ text. text ≡ call_fault_text fault) }
@@ -32,8 +32,8 @@ impl WorkerCore {
         number: u32,
         fault: CallFault,
     ) -> Result<(), OutOfMemory>
-        ensures { (t : WorkerTurn) → Stands self.old acts.old t →
-            OnOk result (Stands self.new acts.new (refused number fault t)) }
+        ensures { (t : WorkerTurn) → IsWorkerTurn self.old acts.old t →
+            OnOk result (IsWorkerTurn self.new acts.new (refused number fault t)) }
     {
         let text = self.error_of(fault)?;
         end_function(&mut self.side, &mut acts.say, number, Some(text), None)?;
@@ -58,8 +58,8 @@ impl WorkerCore {
         number: u32,
         text: Option<Text>,
     ) -> Result<(), OutOfMemory>
-        ensures { (t : WorkerTurn) → Stands self.old acts.old t →
-            OnOk result (Stands self.new acts.new (failed number text t)) }
+        ensures { (t : WorkerTurn) → IsWorkerTurn self.old acts.old t →
+            OnOk result (IsWorkerTurn self.new acts.new (failed number text t)) }
     {
         let other = fail_word(self.alloc)?;
         let text = self.text_or_fail(text)?;
@@ -74,8 +74,8 @@ impl WorkerCore {
     }
 
     fn begin_echo(&mut self, number: u32) -> Result<(), OutOfMemory>
-        ensures { (a : WorkerActions) (t : WorkerTurn) → Stands self.old a t →
-            OnOk result (Stands self.new a (echo_begun number t)) }
+        ensures { (a : WorkerActions) (t : WorkerTurn) → IsWorkerTurn self.old a t →
+            OnOk result (IsWorkerTurn self.new a (echo_begun number t)) }
     {
         self.echoes.push(number)?;
         begin_function(&mut self.side, number);
@@ -89,8 +89,8 @@ impl WorkerCore {
         suite: Text,
         mode: ModeKind,
     ) -> Result<(), OutOfMemory>
-        ensures { (t : WorkerTurn) → Stands self.old acts.old t →
-            OnOk result (Stands self.new acts.new (tests_begun number suite mode t)) }
+        ensures { (t : WorkerTurn) → IsWorkerTurn self.old acts.old t →
+            OnOk result (IsWorkerTurn self.new acts.new (tests_begun number suite mode t)) }
     {
         begin_function(&mut self.side, number);
         tell(
@@ -117,8 +117,8 @@ impl WorkerCore {
         number: u32,
         function: Function,
     ) -> Result<(), OutOfMemory>
-        ensures { (t : WorkerTurn) → Stands self.old acts.old t →
-            OnOk result (Stands self.new acts.new (called number (Runs function) t)) }
+        ensures { (t : WorkerTurn) → IsWorkerTurn self.old acts.old t →
+            OnOk result (IsWorkerTurn self.new acts.new (called number (Runs function) t)) }
     {
         match function {
             Function::Echo => {
@@ -142,8 +142,8 @@ impl WorkerCore {
         number: u32,
         call: Called,
     ) -> Result<(), OutOfMemory>
-        ensures { (t : WorkerTurn) → Stands self.old acts.old t →
-            OnOk result (Stands self.new acts.new (called number call t)) }
+        ensures { (t : WorkerTurn) → IsWorkerTurn self.old acts.old t →
+            OnOk result (IsWorkerTurn self.new acts.new (called number call t)) }
     {
         match call {
             Called::Runs(function) => {
@@ -164,8 +164,8 @@ impl WorkerCore {
         number: u32,
         value: &Value,
     ) -> Result<(), OutOfMemory>
-        ensures { (t : WorkerTurn) → Stands self.old acts.old t →
-            OnOk result (Stands self.new acts.new
+        ensures { (t : WorkerTurn) → IsWorkerTurn self.old acts.old t →
+            OnOk result (IsWorkerTurn self.new acts.new
             (called number (called_in (is_called t.duties.service) (view value.now)) t)) }
     {
         let call = read_call(value, self.tests_call.is_some())?;
@@ -180,8 +180,8 @@ impl WorkerCore {
         number: u32,
         text: Option<Text>,
     ) -> Result<(), OutOfMemory>
-        ensures { (t : WorkerTurn) → Stands self.old acts.old t →
-            OnOk result (Stands self.new acts.new (echo_ended number text t)) }
+        ensures { (t : WorkerTurn) → IsWorkerTurn self.old acts.old t →
+            OnOk result (IsWorkerTurn self.new acts.new (echo_ended number text t)) }
     {
         end_function(&mut self.side, &mut acts.say, number, text, None)?;
         self.forget_echo(number);
@@ -196,7 +196,7 @@ impl WorkerCore {
     }
 
     fn end_long_echo(&mut self, acts: &mut WorkerActions, number: u32) -> Result<(), OutOfMemory>
-        ensures { (t : WorkerTurn) → Stands self.old acts.old t → OnOk result (Stands self.new acts.new (echo_ended number (Some (codes "item is too long")) t)) }
+        ensures { (t : WorkerTurn) → IsWorkerTurn self.old acts.old t → OnOk result (IsWorkerTurn self.new acts.new (echo_ended number (Some (codes "item is too long")) t)) }
     {
         let text = long_item_word(self.alloc)?;
         self.end_echo(acts, number, Some(text))?;
@@ -210,8 +210,8 @@ impl WorkerCore {
         number: u32,
         value: &Value,
     ) -> Result<(), OutOfMemory>
-        ensures { (t : WorkerTurn) → Stands self.old acts.old t →
-            OnOk result (Stands self.new acts.new (echoed number (view value.now) t)) }
+        ensures { (t : WorkerTurn) → IsWorkerTurn self.old acts.old t →
+            OnOk result (IsWorkerTurn self.new acts.new (echoed number (view value.now) t)) }
     {
         match send(&mut self.side, &mut acts.say, number, value)? {
             Sent::Said => Ok(()),

@@ -22,9 +22,9 @@ impl WorkerCore {
     ghost use Rattle.xd_worker.specs.declared.input.WorkerInput.TheVariants.{Message as MessageCame, LinkEnd};
     ghost use Rattle.xd_worker.specs.Worker.{Worker, WorkerTurn, Service, Duties, worker_turn_of, executing, serving};
     ghost use Rattle.xd_worker.specs.Turns.{did, did_unless, is_service};
-    ghost use Rattle.xd_worker.specs.History.{IsToRefuse};
+    ghost use Rattle.xd_worker.specs.History.{IsInputToRefuse};
     ghost use Rattle.xd_worker.specs.Logs.{AllOpen, LogsOpen};
-    ghost use Rattle.xd_worker.specs.Stands.{Stands, AreServices, AreDuties, Does, FaultHasReason, IsSmall};
+    ghost use Rattle.xd_worker.specs.Stands.{IsWorkerTurn, AreServices, AreDuties, Does, FaultHasReason, IsSmall};
 
     // How many functions have not ended.
     fn functions(&self) -> usize
@@ -55,8 +55,8 @@ impl WorkerCore {
         channels: u32,
     ) -> Result<(), OutOfMemory>
         requires { number ≤ 2147483647 }
-        ensures { (t : WorkerTurn) → Stands self.old acts.old t →
-            OnOk result (Stands self.new acts.new (did (taken.Status number) channels t)) }
+        ensures { (t : WorkerTurn) → IsWorkerTurn self.old acts.old t →
+            OnOk result (IsWorkerTurn self.new acts.new (did (taken.Status number) channels t)) }
     {
         let functions = self.functions();
         tell_status(self.alloc, &mut acts.say, number, channels, functions)?;
@@ -71,9 +71,9 @@ impl WorkerCore {
         value: &Value,
         channels: u32,
     ) -> Result<(), OutOfMemory>
-        ensures { (t : WorkerTurn) → Stands self.old acts.old t →
+        ensures { (t : WorkerTurn) → IsWorkerTurn self.old acts.old t →
             AllOpen (did (taken.Handed number (view value.now)) channels t).logs →
-            OnOk result (Stands self.new acts.new
+            OnOk result (IsWorkerTurn self.new acts.new
             (did (taken.Handed number (view value.now)) channels t)) }
     {
         if self.is_service(number) {
@@ -93,9 +93,9 @@ impl WorkerCore {
         number: u32,
         channels: u32,
     ) -> Result<(), OutOfMemory>
-        ensures { (t : WorkerTurn) (end : End) → Stands self.old acts.old t →
+        ensures { (t : WorkerTurn) (end : End) → IsWorkerTurn self.old acts.old t →
             AllOpen (did (taken.EndHanded number end) channels t).logs →
-            OnOk result (Stands self.new acts.new (did (taken.EndHanded number end) channels t)) }
+            OnOk result (IsWorkerTurn self.new acts.new (did (taken.EndHanded number end) channels t)) }
     {
         if self.is_service(number) {
             self.feed(acts, Input::ReceivingEnded, channels)?;
@@ -114,9 +114,9 @@ impl WorkerCore {
         channels: u32,
     ) -> Result<(), OutOfMemory>
         requires { IsSmall (taken_tree taken) }
-        ensures { (t : WorkerTurn) → Stands self.old acts.old t →
+        ensures { (t : WorkerTurn) → IsWorkerTurn self.old acts.old t →
             AllOpen (did (taken_tree taken) channels t).logs →
-            OnOk result (Stands self.new acts.new (did (taken_tree taken) channels t)) }
+            OnOk result (IsWorkerTurn self.new acts.new (did (taken_tree taken) channels t)) }
     {
         match taken {
             Taken::Status(number) => {
@@ -151,9 +151,9 @@ impl WorkerCore {
     ) -> Result<(), OutOfMemory>
         requires { IsSmall (taken_tree taken) }
         ensures { OnOk result ((n : ℕ) × Counts (slot_of_number self.old.side) n
-            × ((t : WorkerTurn) → Stands self.old acts.old t →
+            × ((t : WorkerTurn) → IsWorkerTurn self.old acts.old t →
             AllOpen (did_unless t.duties.stopped (taken_tree taken) n t).logs →
-            Stands self.new acts.new (did_unless t.duties.stopped (taken_tree taken) n t))) }
+            IsWorkerTurn self.new acts.new (did_unless t.duties.stopped (taken_tree taken) n t))) }
     {
         let channels = self.channels();
         if self.stopped {
@@ -169,12 +169,12 @@ impl WorkerCore {
         acts: &mut WorkerActions,
         message: Message,
     ) -> Result<(), WorkerFault>
-        ensures does { (w : Worker) → Stands self.old acts.old (worker_turn_of w) → LogsOpen w →
+        ensures does { (w : Worker) → IsWorkerTurn self.old acts.old (worker_turn_of w) → LogsOpen w →
             OnOk result (Does self.new acts.new w (MessageCame message)) }
-        ensures refused { (w : Worker) → Stands self.old acts.old (worker_turn_of w) →
+        ensures refused { (w : Worker) → IsWorkerTurn self.old acts.old (worker_turn_of w) →
             IfErr result (FaultHasReason w (MessageCame message)) }
-        ensures refuses { (w : Worker) (fault : SideFault) → Stands self.old acts.old (worker_turn_of w) →
-            IsToRefuse w (MessageCame message) fault → IsThisFault fault result }
+        ensures refuses { (w : Worker) (fault : SideFault) → IsWorkerTurn self.old acts.old (worker_turn_of w) →
+            IsInputToRefuse w (MessageCame message) fault → IsThisFault fault result }
     {
         let number = message.channel;
         let taken = match take(&mut self.side, number, message) {
@@ -189,7 +189,7 @@ impl WorkerCore {
 
     // The link ended.
     pub(super) fn take_link_end(&mut self, acts: &mut WorkerActions) -> Result<(), OutOfMemory>
-        ensures { (w : Worker) → Stands self.old acts.old (worker_turn_of w) → LogsOpen w →
+        ensures { (w : Worker) → IsWorkerTurn self.old acts.old (worker_turn_of w) → LogsOpen w →
             OnOk result (Does self.new acts.new w LinkEnd) }
     {
         lose(&mut self.side)?;

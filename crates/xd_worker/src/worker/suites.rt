@@ -16,7 +16,7 @@ impl WorkerCore {
     ghost use Rattle.xd_worker.specs.Worker.{Worker, WorkerTurn, Service, worker_turn_of};
     ghost use Rattle.xd_worker.specs.Turns.{SuiteRead, NoSuite, ids_to_collect, suite_read, suite_refused, worker_turned};
     ghost use Rattle.xd_worker.specs.Logs.{AllOpen, LogsOpen};
-    ghost use Rattle.xd_worker.specs.Stands.{Stands, AreServices, Does};
+    ghost use Rattle.xd_worker.specs.Stands.{IsWorkerTurn, AreServices, Does};
 
     // The ids of a suite, in the mode of the call.
     fn ids(&self, suite: &Suite) -> Result<Texts, OutOfMemory>
@@ -42,9 +42,9 @@ impl WorkerCore {
         suite: Suite,
         channels: u32,
     ) -> Result<(), OutOfMemory>
-        ensures { (t : WorkerTurn) → Stands self.old acts.old t →
+        ensures { (t : WorkerTurn) → IsWorkerTurn self.old acts.old t →
             AllOpen (suite_read suite channels t).logs →
-            OnOk result (Stands self.new acts.new (suite_read suite channels t)) }
+            OnOk result (IsWorkerTurn self.new acts.new (suite_read suite channels t)) }
     {
         let ids = self.ids(&suite)?;
         let input = collection(self.alloc, ids)?;
@@ -60,9 +60,9 @@ impl WorkerCore {
         text: Text,
         channels: u32,
     ) -> Result<(), OutOfMemory>
-        ensures { (t : WorkerTurn) → Stands self.old acts.old t →
+        ensures { (t : WorkerTurn) → IsWorkerTurn self.old acts.old t →
             AllOpen (suite_refused text channels t).logs →
-            OnOk result (Stands self.new acts.new (suite_refused text channels t)) }
+            OnOk result (IsWorkerTurn self.new acts.new (suite_refused text channels t)) }
     {
         self.owed = false;
         self.feed(acts, Input::SuiteRefused(text), channels)?;
@@ -75,7 +75,7 @@ impl WorkerCore {
         acts: &mut WorkerActions,
         bytes: Blob,
     ) -> Result<(), OutOfMemory>
-        ensures { (w : Worker) → Stands self.old acts.old (worker_turn_of w) → LogsOpen w →
+        ensures { (w : Worker) → IsWorkerTurn self.old acts.old (worker_turn_of w) → LogsOpen w →
             OnOk result (Does self.new acts.new w (SuiteBytes bytes)) }
     {
         let channels = self.channels();
@@ -97,9 +97,9 @@ impl WorkerCore {
         suite: Suite,
         channels: u32,
     ) -> Result<(), OutOfMemory>
-        ensures { (t : WorkerTurn) → Stands self.old acts.old t →
+        ensures { (t : WorkerTurn) → IsWorkerTurn self.old acts.old t →
             AllOpen (worker_turned (SuiteRead suite) channels t).logs →
-            OnOk result (Stands self.new acts.new (worker_turned (SuiteRead suite) channels t)) }
+            OnOk result (IsWorkerTurn self.new acts.new (worker_turned (SuiteRead suite) channels t)) }
     {
         if self.owed {
             self.hold(acts, suite, channels)?;
@@ -113,9 +113,9 @@ impl WorkerCore {
         text: Text,
         channels: u32,
     ) -> Result<(), OutOfMemory>
-        ensures { (t : WorkerTurn) → Stands self.old acts.old t →
+        ensures { (t : WorkerTurn) → IsWorkerTurn self.old acts.old t →
             AllOpen (worker_turned (NoSuite text) channels t).logs →
-            OnOk result (Stands self.new acts.new (worker_turned (NoSuite text) channels t)) }
+            OnOk result (IsWorkerTurn self.new acts.new (worker_turned (NoSuite text) channels t)) }
     {
         if self.owed {
             self.refuse_suite(acts, text, channels)?;
@@ -125,7 +125,7 @@ impl WorkerCore {
 
     // The suite file is too large.
     pub(super) fn take_large(&mut self, acts: &mut WorkerActions) -> Result<(), OutOfMemory>
-        ensures { (w : Worker) → Stands self.old acts.old (worker_turn_of w) → LogsOpen w →
+        ensures { (w : Worker) → IsWorkerTurn self.old acts.old (worker_turn_of w) → LogsOpen w →
             OnOk result (Does self.new acts.new w SuiteTooLarge) }
     {
         let channels = self.channels();
@@ -136,7 +136,7 @@ impl WorkerCore {
 
     // The suite file cannot be read.
     pub(super) fn take_unread(&mut self, acts: &mut WorkerActions) -> Result<(), OutOfMemory>
-        ensures { (w : Worker) → Stands self.old acts.old (worker_turn_of w) → LogsOpen w →
+        ensures { (w : Worker) → IsWorkerTurn self.old acts.old (worker_turn_of w) → LogsOpen w →
             OnOk result (Does self.new acts.new w SuiteUnread) }
     {
         let channels = self.channels();
@@ -151,7 +151,7 @@ impl WorkerCore {
         acts: &mut WorkerActions,
         bytes: Blob,
     ) -> Result<(), OutOfMemory>
-        ensures { (w : Worker) → Stands self.old acts.old (worker_turn_of w) → LogsOpen w →
+        ensures { (w : Worker) → IsWorkerTurn self.old acts.old (worker_turn_of w) → LogsOpen w →
             OnOk result (Does self.new acts.new w (Output bytes)) }
     {
         let channels = self.channels();
@@ -166,7 +166,7 @@ impl WorkerCore {
         outcome: Outcome,
         ms: u64,
     ) -> Result<(), OutOfMemory>
-        ensures { (w : Worker) → Stands self.old acts.old (worker_turn_of w) → LogsOpen w →
+        ensures { (w : Worker) → IsWorkerTurn self.old acts.old (worker_turn_of w) → LogsOpen w →
             OnOk result (Does self.new acts.new w (ChildDone outcome ms)) }
     {
         let channels = self.channels();

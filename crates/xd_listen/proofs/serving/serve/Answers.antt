@@ -2,7 +2,7 @@ use Rattle.std.proofs.Common.{◌≡◌, [], ◌∷◌, ◌++◌, Some, false, r
 use Rattle.xd_link.specs.Spring.{spring}
 use Rattle.xd_post.specs.Mails.{mails}
 use Rattle.xd_post.specs.Post.{Ring, put, ring_of_sender}
-use Rattle.xd_runner.specs.Orders.{Order, seen as programs}
+use Rattle.xd_runner.specs.Orders.{Order, programs_seen as programs}
 use Rattle.xd_listen.specs.Ends.{Served, scene}
 use Rattle.xd_listen.specs.Halts.{Goes, at_sink}
 use Rattle.xd_listen.specs.Seen.{Seen, seen}

@@ -2,7 +2,7 @@ use Rattle.std.proofs.Common.{◌∙◌, refl}
 use Rattle.xd_link.specs.Spring.{spring}
 use Rattle.xd_edge.specs.Clock.{ticking}
 use Rattle.xd_top.specs.Outside.{Workplace}
-use Rattle.xd_top.specs.Worker.{scene_at}
+use Rattle.xd_top.specs.Worker.{served_scene}
 use Rattle.xd_top.proofs.Workers.{links_one, served_link, serves_link}
 use Rattle.xd_top.proofs.worker.serve_at.Goals as goal
 
@@ -25,7 +25,7 @@ returns-clause-did g c =
       clock = ticking (g.T.Clock.moment c.serve.new.clock) (g.T.Clock.coming c.serve.new.clock);
     } in
     let link = served_link c.in_ok-end.end.status start end (g.St.Snk.Sink.sunk c.in-Ok.link.sink) (g.St.Snk.Sink.faults c.in-Ok.link.sink) old
-    (scene_at (g.St.Snk.Sink.sunk c.in_ok-end.end.sink) (g.St.Snk.Sink.faults c.in_ok-end.end.sink) new)
+    (served_scene (g.St.Snk.Sink.sunk c.in_ok-end.end.sink) (g.St.Snk.Sink.faults c.in_ok-end.end.sink) new)
     c.in-Ok.ensures.nothing_given c.in-Ok.ensures.not_ended c.in-Ok.ensures.no_reads c.in-Ok.ensures.nothing_taken c.in-Ok.ensures.no_writes c.in_ok-end.ensures.served in
     links_one _ _ _ _ _ _ _ _ (c.in_ok-reserve.ensures.items ∙ c.new-links.ensures.items) c.push_reserved.ensures.items
     (serves_link _ _ _ _ _ refl refl link c.in-Ok.ensures.started (c.in-Ok.ensures.counted.still refl))

@@ -6,7 +6,7 @@ use Rattle.xd_run_tests.specs.declared.line_entry.LineEntry.{LineEntry}
 use Rattle.xd_run_tests.specs.declared.line_entry.LineEntry.TheVariants.{Mark}
 use Rattle.xd_run_tests.specs.Line.{left}
 use Rattle.xd_run_tests.specs.Turns.{asking, moved_on}
-use Rattle.xd_run_tests.specs.Stands.{Stands}
+use Rattle.xd_run_tests.specs.Stands.{IsCallTurn}
 use Rattle.xd_run_tests.proofs.Moves.{asked, left_is}
 use Rattle.xd_run_tests.proofs.run_tests.RunTests.move_on.Goals as goal
 
@@ -16,5 +16,5 @@ returns-in_ok-request-in-Some-Mark c = λ t serves idle h.
     let s = c.args.self.now in
     let is_mark : s.next ≡ Some Mark = (let e = rw c.in-Some-Mark.is at c.in-Some-Mark.field-0-is in c.in-Some-Mark.is ∙ ap Some e) in
     let mark : left t.call ≡ Mark ∷ s.queue.items = left_is s t.call serves idle h.call ∙ ap (λ (x : Option LineEntry). option_to_list x ++ s.queue.items) is_mark in
-    subst (λ (l : List LineEntry). OnOk c.finish.result (Stands c.finish.new.self c.finish.new.acts (moved_on c.args.room l t))) (sym mark)
+    subst (λ (l : List LineEntry). OnOk c.finish.result (IsCallTurn c.finish.new.self c.finish.new.acts (moved_on c.args.room l t))) (sym mark)
     (c.finish.ensures (asking (Tell Finished ∷ []) t) (record { held = h.call.held; acted = asked c.args.acts.now c.request.new.acts t (Tell Finished) c.in_ok-request-in-Some-Mark.ensures.asks c.in_ok-request-in-Some-Mark.ensures.run h.acted }))

@@ -1,7 +1,7 @@
 use Rattle.std.proofs.Common.{◌≡◌, sym, subst, ◌∙◌}
 use Rattle.xd_value.specs.View.{view}
 use Rattle.xd_worker.specs.Worker.{WorkerTurn}
-use Rattle.xd_worker.specs.Stands.{Stands}
+use Rattle.xd_worker.specs.Stands.{IsWorkerTurn}
 use Rattle.xd_factory.specs.SideTable.{channel_table}
 use Rattle.xd_worker.specs.Talk.{sent_how, payload_on}
 use Rattle.xd_worker.specs.declared.talk.Sent.TheVariants.{Unwritten}
@@ -15,5 +15,5 @@ returns-in_ok-end_long_echo-in-Unwritten c = λ t h.
     let n = c.args.number in
     let v = view c.args.value.now in
     let u : sent_how (payload_on n v (channel_table s.side)) ≡ Unwritten = sym c.in_ok-send.ensures.how ∙ c.in-Unwritten.is in
-    subst (λ (x : WorkerTurn). Stands c.end_long_echo.new.self c.end_long_echo.new.acts x) (echoed_long s a t n v u h)
+    subst (λ (x : WorkerTurn). IsWorkerTurn c.end_long_echo.new.self c.end_long_echo.new.acts x) (echoed_long s a t n v u h)
     (c.in_ok-end_long_echo-in-Unwritten.ensures t (left_out s c.send.new.side a c.send.new.say t n v u c.in_ok-send.ensures.talk h))
