@@ -30,7 +30,13 @@ impl<V> Model for ChannelEnd<V> {
 
     ghost Value = { EndState V };
 
-    ghost view = { λ e. record { waiting = e.waiting.items; marker = e.marker; sending = e.sending; callback = e.callback; given = e.given } };
+    ghost view = { λ e. record {
+      waiting = e.waiting.items;
+      marker = e.marker;
+      sending = e.sending;
+      callback = e.callback;
+      given = e.given;
+    } };
 }
 
 impl<V: Drop> ChannelEnd<V> {

@@ -104,7 +104,8 @@ fn next_news(news: &mut VecDeque<News>, started: &[u32], turn: &mut usize) -> Ne
     requires { (w : ℕ) × (is_listed w started.now ≡ true) }
     ensures started { is_listed result.worker started.now ≡ true }
     ensures no_breach { is_breach result.what ≡ false }
-    ensures listed { GivesListed started.now turn.old news.old.items result news.new.items turn.new }
+    ensures listed { GivesListed started.now turn.old news.old.items
+        result news.new.items turn.new }
 {
     if let Some(next) = next_listed(news, started) {
         return next;

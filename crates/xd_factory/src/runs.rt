@@ -50,7 +50,8 @@ impl Runs {
     /// Adds a number, which may be in the set. Runs that it joins become one.
     pub(crate) fn insert(&mut self, number: u32) -> Result<(), AllocError>
         requires { number < 4294967295 }
-        ensures ok { OnOk result ((c : ℕ) → in_runs self.new c ≡ (number == c) || in_runs self.old c) }
+        ensures ok { OnOk result
+            ((c : ℕ) → in_runs self.new c ≡ (number == c) || in_runs self.old c) }
         ensures err { OnErr result ((c : ℕ) → in_runs self.new c ≡ in_runs self.old c) }
     {
         let Some(first) = self.first_joined(number) else {

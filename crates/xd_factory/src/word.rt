@@ -39,7 +39,8 @@ pub(crate) fn read_message(alloc: Global, message: &Message) -> Result<Word, Sid
 // What a message of these parts says.
 fn read_parts(alloc: Global, kind: Kind, channel: u32, payload: &[u8]) -> Result<Word, SideFault>
     requires { channel ≤ 2147483647 }
-    ensures { MessageReads (record { kind = kind; channel = channel; payload = payload.now }) result }
+    ensures { MessageReads (record { kind = kind; channel = channel; payload = payload.now })
+        result }
 {
     if lacks_number(kind, channel) {
         return Err(SideFault::BadNumber);

@@ -101,7 +101,9 @@ pub fn value_event(alloc: Global, value: &Value) -> Result<Option<What>, OutOfMe
 }
 
 fn event_called(alloc: Global, call: &Call<'_>) -> Result<Option<What>, OutOfMemory>
-    ensures { IfOk result (λ r. r ≡ called_event (record { name = call.now.name.now; kwargs = pair_views call.now.kwargs.now })) }
+    ensures { IfOk result
+        (λ r. r ≡ called_event
+        (record { name = call.now.name.now; kwargs = pair_views call.now.kwargs.now })) }
 {
     let name = call.name;
     if is_word(name, "workerready") {

@@ -189,7 +189,9 @@ fn running(kwargs: &[(Value, Value)], started: bool) -> Result<Called, OutOfMemo
 
 /// The mode under the key `dist`.
 fn mode_at(kwargs: &[(Value, Value)]) -> Option<ModeKind>
-    ensures { result ≡ option_and_then mode_by_word (option_and_then text_in_tree (value_at (codes "dist") (pair_views kwargs.now))) }
+    ensures { result ≡
+        option_and_then mode_by_word
+        (option_and_then text_in_tree (value_at (codes "dist") (pair_views kwargs.now))) }
 {
     let mode = text_at(kwargs, "dist")?;
     mode_of(mode)

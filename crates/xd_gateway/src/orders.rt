@@ -68,7 +68,9 @@ pub fn value_order(alloc: Global, value: &Value) -> Result<Option<Order>, OutOfM
 }
 
 fn order_called(alloc: Global, call: &Call<'_>) -> Result<Option<Order>, OutOfMemory>
-    ensures { IfOk result (λ r. r ≡ called_order (record { name = call.now.name.now; kwargs = pair_views call.now.kwargs.now })) }
+    ensures { IfOk result
+        (λ r. r ≡ called_order
+        (record { name = call.now.name.now; kwargs = pair_views call.now.kwargs.now })) }
 {
     let name = call.name;
     if is_word(name, "runtests") {

@@ -119,7 +119,8 @@ impl<S: Source + Drop, N: Sink + Drop, C: Crew<Reader<S>>> Group<S, N, C> {
         ensures started { IfOk result (λ r.
             IfSome r.news (λ n. IsStarted (noted self.old.diary.calls) n.worker)) }
         ensures given { IfOk result (λ r.
-            IfSome r.news (λ n. noted self.new.diary.given ≡ noted self.old.diary.given ++ n ∷ [])) }
+            IfSome r.news
+            (λ n. noted self.new.diary.given ≡ noted self.old.diary.given ++ n ∷ [])) }
         ensures silent { IfOk result (λ r.
             IfNone r.news (noted self.new.diary.given ≡ noted self.old.diary.given)) }
         ensures no_breach { IfOk result (λ r. IfSome r.news (λ n. is_breach n.what ≡ false)) }

@@ -50,7 +50,8 @@ pub fn take_held(rota: &mut [Holder], worker: u32, items: &[u64])
 
 /// The worker leaves the rota.
 pub fn leave(rota: &mut Vec<Holder>, worker: u32)
-    ensures { map seat_of_holder rota.new.items ≡ without_seat worker (map seat_of_holder rota.old.items) }
+    ensures { map seat_of_holder rota.new.items ≡
+        without_seat worker (map seat_of_holder rota.old.items) }
 {
     rota.retain(|holder| holder.worker != worker);
 }
@@ -69,8 +70,9 @@ pub fn join(alloc: Global, rota: &mut Vec<Holder>, worker: u32) -> Result<(), Ou
 
 impl Holder {
     fn add(&mut self, worker: u32, items: &[u64]) -> Result<(), OutOfMemory>
-        ensures { OnOk result (seat_of_holder self.new ≡ (if self.old.worker == worker then record
-            (seat_of_holder self.old) { held = self.old.held ++ items.now } else seat_of_holder self.old)) }
+        ensures { OnOk result (seat_of_holder self.new ≡
+            (if self.old.worker == worker then record (seat_of_holder self.old)
+            { held = self.old.held ++ items.now } else seat_of_holder self.old)) }
     {
         if self.worker == worker {
             self.held.add(items)?;
@@ -79,7 +81,8 @@ impl Holder {
     }
 
     fn take(&mut self, worker: u32, items: &[u64])
-        ensures { seat_of_holder self.new ≡ (if self.old.worker == worker then record (seat_of_holder self.old)
+        ensures { seat_of_holder self.new ≡
+            (if self.old.worker == worker then record (seat_of_holder self.old)
             { held = without items.now self.old.held } else seat_of_holder self.old) }
     {
         if self.worker == worker {

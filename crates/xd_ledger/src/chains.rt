@@ -29,7 +29,11 @@ impl Model for Chains {
 
     ghost Value = { Lists };
 
-    ghost view = { λ l. record { next = l.next.items; owner = l.owner.items; counts = l.counts.items } };
+    ghost view = { λ l. record {
+      next = l.next.items;
+      owner = l.owner.items;
+      counts = l.counts.items;
+    } };
 
     ghost invariant = { λ l. AreChains l.next.items l.previous.items l.owner.items l.counts.items
         (chain l.next.items l.owner.items l.counts.items) };

@@ -29,7 +29,8 @@ impl<N: Sink> Server<N> {
         ensures heard { (a : Setting) (now : Beside) →
             ServesSoFar a now (owed_of_link (news.Message message))
             (seen N.sunk N.faults self.old) →
-            IfOk result (λ path. ServesSoFar a now (to_start path) (seen N.sunk N.faults self.new)) }
+            IfOk result
+            (λ path. ServesSoFar a now (to_start path) (seen N.sunk N.faults self.new)) }
         ensures refused { (a : Setting) (now : Beside) →
             ServesSoFar a now (owed_of_link (news.Message message))
             (seen N.sunk N.faults self.old) →

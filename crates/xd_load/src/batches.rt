@@ -64,7 +64,8 @@ pub(crate) fn refill_one(
 ) -> Result<(), OutOfMemory>
     requires { in_rota worker ledger.old ≡ true }
     ensures { OnOk result ((p : Plan) → InChunks chunk p →
-        turn ledger.new p acts.new.items ≡ load_refill ms worker (turn ledger.old p acts.old.items)) }
+        turn ledger.new p acts.new.items ≡
+        load_refill ms worker (turn ledger.old p acts.old.items)) }
 {
     if ledger.is_shut(worker) {
         return Ok(());

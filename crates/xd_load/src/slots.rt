@@ -48,7 +48,8 @@ fn give_all(
     requires seated { in_rota worker ledger.old ≡ true }
     requires waiting { all_among (items_in slot sizes.now) ledger.old.pool ≡ true }
     ensures { OnOk result ((p : Plan) → InSlots sizes.now p →
-        turn ledger.new p acts.new.items ≡ give_all worker slot (turn ledger.old p acts.old.items)) }
+        turn ledger.new p acts.new.items ≡
+        give_all worker slot (turn ledger.old p acts.old.items)) }
 {
     tell_all(alloc, sizes, worker, slot, ledger, acts)?;
     shut(worker, ledger, acts)?;
@@ -67,7 +68,8 @@ pub(crate) fn share(
     requires distinct { all_distinct slots.now ≡ true }
     requires waiting { AreWaiting slots.now sizes.now ledger.old.pool }
     ensures { OnOk result ((p : Plan) → InSlots sizes.now p →
-        turn ledger.new p acts.new.items ≡ each_share slots.now (turn ledger.old p acts.old.items)) }
+        turn ledger.new p acts.new.items ≡
+        each_share slots.now (turn ledger.old p acts.old.items)) }
 {
     for place in 0..ledger.rota_len() {
         let worker = ledger.rota_at(place);

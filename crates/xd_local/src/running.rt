@@ -200,7 +200,8 @@ impl<K: Children> Run<K> {
             ShowsLines shown (lines_from s (drop from self.old.journal.entries.items))
             (O.sunk out.old) (O.sunk out.new)) }
         ensures follows { (s : State) → Follows self.old.reporter s → OnPrinted result (λ shown.
-            Follows self.new.reporter (after_entries s (drop from self.old.journal.entries.items))) }
+            Follows self.new.reporter
+            (after_entries s (drop from self.old.journal.entries.items))) }
         ensures keeps { self.new ≡ record (self.old) { reporter = self.new.reporter } }
         ensures counted { OnPrinted result (λ shown.
             Counted shown (O.faults out.old) (O.faults out.new)) }

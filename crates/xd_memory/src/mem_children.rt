@@ -266,7 +266,8 @@ impl Children for MemChildren {
         ensures end_failed { OnErr result (IsTrue child.new.is_read) }
         ensures gave { IfOk result (λ n.
             all_told self.new.children.items self.new.runs.items ≡ change_at child.old.place
-            (with_output (take n into.new)) (all_told self.old.children.items self.old.runs.items)) }
+            (with_output (take n into.new))
+            (all_told self.old.children.items self.old.runs.items)) }
         ensures gave_all { IfOk result (λ n. n ≡ 0 → 0 < length into.old →
             IfSome (slice_get (all_told self.new.children.items self.new.runs.items)
             child.old.place) (λ run. run.output ≡ has_to_give self.new.children.items

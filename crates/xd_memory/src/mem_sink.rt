@@ -40,7 +40,11 @@ impl MemSink {
 impl Sink for MemSink {
     ghost faults = { λ s. s.plan.faults };
 
-    ghost sunk = { λ s. Some (record { bytes = s.bytes.items; flushed = s.flushed; closed = s.closed }) };
+    ghost sunk = { λ s. Some (record {
+      bytes = s.bytes.items;
+      flushed = s.flushed;
+      closed = s.closed;
+    }) };
 
     fn write(&mut self, piece: &[u8]) -> Result<usize, Failed>
         ensures count { IfOk result (λ n. n ≤ length piece.now) }

@@ -103,7 +103,8 @@ pub fn write_order<N: Sink + Drop>(
         send_refusal (slot_of_number (side_of gateway.old) 1) ≡ None
         → OnOk result (WritesOrder (order_message e) (line_of N.sunk N.faults gateway.old)
         (line_of N.sunk N.faults gateway.new)) }
-    ensures stands { (h : List Heard) → StandsForHeard gateway.old h → StandsForHeard gateway.new h }
+    ensures stands { (h : List Heard) → StandsForHeard gateway.old h →
+        StandsForHeard gateway.new h }
 {
     match gateway.say(1, value) {
         Ok(()) => Ok(false),
@@ -119,7 +120,8 @@ pub fn write_order<N: Sink + Drop>(
 pub fn end_worker<N: Sink + Drop>(gateway: &mut Gateway<N>) -> bool
     ensures lost { result ≡ is_broken gateway.new }
     ensures closes { ClosesOn N.sunk N.faults gateway.old gateway.new (frame terminate_message) }
-    ensures stands { (h : List Heard) → StandsForHeard gateway.old h → StandsForHeard gateway.new h }
+    ensures stands { (h : List Heard) → StandsForHeard gateway.old h →
+        StandsForHeard gateway.new h }
 {
     gateway.exit().is_err()
 }
@@ -129,7 +131,8 @@ pub fn close_link<N: Sink + Drop>(gateway: &mut Gateway<N>) -> bool
     ensures lost { result ≡ is_broken gateway.new }
     ensures closes { ClosesNow (line_of N.sunk N.faults gateway.old)
         (line_of N.sunk N.faults gateway.new) }
-    ensures stands { (h : List Heard) → StandsForHeard gateway.old h → StandsForHeard gateway.new h }
+    ensures stands { (h : List Heard) → StandsForHeard gateway.old h →
+        StandsForHeard gateway.new h }
 {
     gateway.close().is_err()
 }

@@ -92,7 +92,8 @@ impl<T: Drop> Desk<T> {
         ensures knew { IfNone result (NoneKnown (knows self.old) × NoneKnown (knows self.new)) }
         ensures some { IfSome result (λ r. TakesAt (mails self.old) (mails self.new) r.0 r.1) }
         ensures place { IfSome result (λ r. r.0 < length (mails self.old)) }
-        ensures passed { IfSome result (λ r. NoneBefore (knows self.old) (next_inbox self.old) r.0) }
+        ensures passed { IfSome result (λ r.
+            NoneBefore (knows self.old) (next_inbox self.old) r.0) }
         ensures turn { next_inbox self.new ≡ next_inbox self.old }
     {
         let first = self.turn;
@@ -110,7 +111,8 @@ impl<T: Drop> Desk<T> {
         ensures knew { IfNone result (NoneKnown (knows self.old) × NoneKnown (knows self.new)) }
         ensures some { IfSome result (λ r. TakesAt (mails self.old) (mails self.new) r.0 r.1) }
         ensures turn { IfSome result (λ r. next_inbox self.new ≡ r.0 + 1) }
-        ensures passed { IfSome result (λ r. NoneBefore (knows self.old) (next_inbox self.old) r.0) }
+        ensures passed { IfSome result (λ r.
+            NoneBefore (knows self.old) (next_inbox self.old) r.0) }
     {
         let (at, item) = self.take_in_turn()?;
         self.turn = at + 1;

@@ -12,7 +12,8 @@ use xd_journal::Journal;
 /// The counts of the reports that are over 0, without a newline.
 pub fn summary_line(alloc: Global, journal: &Journal) -> Result<Text, OutOfMemory>
     ensures { IfOk result (λ text.
-        encode_utf8_all text ≡ summary_text (counts journal.now.settings journal.now.entries.items)) }
+        encode_utf8_all text ≡
+        summary_text (counts journal.now.settings journal.now.entries.items)) }
 {
     let counts = counts_of(alloc, journal)?;
     let line = summary(alloc, counts)?;

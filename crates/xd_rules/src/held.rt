@@ -29,7 +29,8 @@ impl<M: Mode> RunState<M> {
         ensures seated { (item : ℕ) → result ≡ Some item →
             in_rota worker self.now.books.ledger ≡ true }
         ensures only { (s : State) → books_of self.now.books ≡ s.books →
-            known_by self.now.known ≡ known_plan s.plan → is_some result ≡ names_head worker index s }
+            known_by self.now.known ≡ known_plan s.plan →
+            is_some result ≡ names_head worker index s }
         ensures named { result ≡ where_is
             (first_item (slot_of worker (books_of self.now.books))
             (known_by self.now.known) + index) (first_of (held worker self.now.books.ledger)) }

@@ -55,7 +55,8 @@ pub fn shut_everyone(
     entries: &mut Vec<Entry>,
 ) -> Result<(), OutOfMemory>
     ensures told { OnOk result
-        (books_of books.new ≡ told_all (waiting (books_of books.old).members) (books_of books.old)) }
+        (books_of books.new ≡
+        told_all (waiting (books_of books.old).members) (books_of books.old)) }
     ensures noted { OnOk result
         (entries.new.items ≡ entries.old.items ++ shut_all (books_of books.old).members) }
 {

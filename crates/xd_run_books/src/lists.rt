@@ -55,7 +55,8 @@ fn are_distinct(alloc: Global, texts: &[Text]) -> Result<bool, OutOfMemory>
 /// The collection is within its bounds.
 pub fn are_in_order(alloc: Global, ids: &Texts) -> Result<bool, OutOfMemory>
     ensures { IfOk result (λ b.
-        b ≡ (nat_le (length ids.now) most_tests && list_all is_id ids.now && no_text_twice ids.now)) }
+        b ≡ (nat_le (length ids.now) most_tests && list_all is_id ids.now
+        && no_text_twice ids.now)) }
 {
     if ids.items.len() > MAX_TESTS as usize || !are_all_ids(&ids.items) {
         return Ok(false);

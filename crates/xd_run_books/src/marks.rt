@@ -24,7 +24,8 @@ fn waits(m: Member) -> bool
 
 // One more number, where it is to come in.
 fn add_where(test: bool, worker: u32, workers: &mut Indices) -> Result<(), OutOfMemory>
-    ensures { OnOk result (workers.new ≡ (if test then workers.old ++ worker ∷ [] else workers.old)) }
+    ensures { OnOk result
+        (workers.new ≡ (if test then workers.old ++ worker ∷ [] else workers.old)) }
 {
     if test {
         workers.items.push(worker)?;

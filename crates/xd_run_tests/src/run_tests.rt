@@ -67,7 +67,8 @@ impl RunTests {
 
     /// The test that runs.
     pub fn runs(&self) -> Option<u32>
-        ensures { (h : List Given) → StandsForGiven self.now h → result ≡ running_test (call_after h) }
+        ensures { (h : List Given) → StandsForGiven self.now h →
+            result ≡ running_test (call_after h) }
     {
         self.running.map(|running| running.test)
     }

@@ -27,7 +27,8 @@ pub fn carry_out<R: Wait, K: Children>(
 )
     ensures runs { RunsOrders (mails orders.old) (mails orders.new)
         (programs_seen (K.runs children.old) (K.faults children.old))
-        (programs_seen (K.runs children.new) (K.faults children.new)) (put sender.old) (put sender.new) }
+        (programs_seen (K.runs children.new) (K.faults children.new))
+        (put sender.old) (put sender.new) }
     ensures ring { ring_of_sender sender.new ≡ ring_of_sender sender.old }
 {
     for _ in rt.forever() {
@@ -54,10 +55,12 @@ fn run_order<R: Wait, K: Children>(
     requires { 0 < length order.now }
     ensures ran { OnOk result
         (RunsOne order.now (programs_seen (K.runs children.old) (K.faults children.old))
-        (programs_seen (K.runs children.new) (K.faults children.new)) (put sender.old) (put sender.new)) }
+        (programs_seen (K.runs children.new) (K.faults children.new))
+        (put sender.old) (put sender.new)) }
     ensures part { OnErr result
         (RunsPart order.now (programs_seen (K.runs children.old) (K.faults children.old))
-        (programs_seen (K.runs children.new) (K.faults children.new)) (put sender.old) (put sender.new)) }
+        (programs_seen (K.runs children.new) (K.faults children.new))
+        (put sender.old) (put sender.new)) }
     ensures ring { ring_of_sender sender.new ≡ ring_of_sender sender.old }
 {
     let outcome = run_program(rt, alloc, children, sender, order)?;
@@ -76,10 +79,12 @@ fn run_program<R: Wait, K: Children>(
     requires { 0 < length order.now }
     ensures ran { IfOk result (λ outcome.
         RunsTo outcome order.now (programs_seen (K.runs children.old) (K.faults children.old))
-        (programs_seen (K.runs children.new) (K.faults children.new)) (put sender.old) (put sender.new)) }
+        (programs_seen (K.runs children.new) (K.faults children.new))
+        (put sender.old) (put sender.new)) }
     ensures part { OnErr result
         (RunsPart order.now (programs_seen (K.runs children.old) (K.faults children.old))
-        (programs_seen (K.runs children.new) (K.faults children.new)) (put sender.old) (put sender.new)) }
+        (programs_seen (K.runs children.new) (K.faults children.new))
+        (put sender.old) (put sender.new)) }
     ensures ring { ring_of_sender sender.new ≡ ring_of_sender sender.old }
 {
     match children.start(alloc, order) {
@@ -98,11 +103,14 @@ fn watch<R: Wait, K: Children>(
     child: K::Child,
 ) -> Result<Outcome, OutOfMemory>
     ensures watched { IfOk result (λ outcome.
-        Watches outcome (K.place child) (programs_seen (K.runs children.old) (K.faults children.old))
-        (programs_seen (K.runs children.new) (K.faults children.new)) (put sender.old) (put sender.new)) }
+        Watches outcome (K.place child)
+        (programs_seen (K.runs children.old) (K.faults children.old))
+        (programs_seen (K.runs children.new) (K.faults children.new))
+        (put sender.old) (put sender.new)) }
     ensures part { OnErr result
         (WatchesPart (K.place child) (programs_seen (K.runs children.old) (K.faults children.old))
-        (programs_seen (K.runs children.new) (K.faults children.new)) (put sender.old) (put sender.new)) }
+        (programs_seen (K.runs children.new) (K.faults children.new))
+        (put sender.old) (put sender.new)) }
     ensures ring { ring_of_sender sender.new ≡ ring_of_sender sender.old }
 {
     let mut child = child;

@@ -78,7 +78,8 @@ impl<K: Children> Job for Runner<K> {
     ghost gives = { λ job out.
         RunsOrders (mails job.orders) (mails out.orders)
         (programs_seen (K.runs job.children) (K.faults job.children))
-        (programs_seen (K.runs out.children) (K.faults out.children)) (put job.sender) (put out.sender)
+        (programs_seen (K.runs out.children) (K.faults out.children))
+        (put job.sender) (put out.sender)
         × (ring_of_sender out.sender ≡ ring_of_sender job.sender) };
 
     fn run<R: Wait>(self, rt: &R) -> RunnerEnd<K>

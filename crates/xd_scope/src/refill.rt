@@ -100,7 +100,8 @@ pub(crate) fn refill_one(
     requires seated { in_rota worker ledger.old ≡ true }
     requires fits { AreInPool units.old.queue.items ledger.old.pool }
     ensures turned { OnOk result ((p : Plan) → Keeps units.old p →
-        IsAt (scope_refill worker (turn ledger.old p acts.old.items)) ledger.new acts.new.items units.new) }
+        IsAt (scope_refill worker (turn ledger.old p acts.old.items)) ledger.new acts.new.items
+        units.new) }
     ensures fits { OnOk result (AreInPool units.new.queue.items ledger.new.pool) }
     ensures rota { OnOk result (workers_of ledger.new ≡ workers_of ledger.old) }
 {
@@ -182,7 +183,8 @@ pub(crate) fn refill_all(
 ) -> Result<(), OutOfMemory>
     requires { AreInPool units.old.queue.items ledger.old.pool }
     ensures { OnOk result ((p : Plan) → Keeps units.old p →
-        IsAt (scope_refill_all (turn ledger.old p acts.old.items)) ledger.new acts.new.items units.new) }
+        IsAt (scope_refill_all (turn ledger.old p acts.old.items)) ledger.new acts.new.items
+        units.new) }
 {
     let count = ledger.rota_len();
     deal_each(alloc, Deal::Refill, count, units, ledger, acts)?;

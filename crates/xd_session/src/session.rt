@@ -39,7 +39,12 @@ impl<M: Mode> Model for Session<M> {
 
     ghost Value = { SessionSeen };
 
-    ghost view = { λ s. record { settings = s.journal.settings; entries = s.journal.entries.items; logs = s.core.logs; whole = s.whole } };
+    ghost view = { λ s. record {
+      settings = s.journal.settings;
+      entries = s.journal.entries.items;
+      logs = s.core.logs;
+      whole = s.whole;
+    } };
 
     ghost invariant = { λ s. s.whole ≡ true →
         InStep s.journal.settings s.journal.entries.items s.core.logs s.core.spent

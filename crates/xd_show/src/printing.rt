@@ -90,7 +90,8 @@ fn print_tuple(out: &mut Text, items: &[Value]) -> Result<(), AllocError>
 #[cycle(print)]
 fn print_set(out: &mut Text, items: &[Value]) -> Result<(), AllocError>
     ensures { OnOk result (out.new ≡ out.old
-        ++ shown_set (codes "set()") (codes "{") (shown_items [] (views items.now)) (codes "}") (count (views items.now))) }
+        ++ shown_set (codes "set()") (codes "{") (shown_items [] (views items.now)) (codes "}")
+        (count (views items.now))) }
 {
     if items.is_empty() {
         put(out, "set()")?;
@@ -103,7 +104,8 @@ fn print_set(out: &mut Text, items: &[Value]) -> Result<(), AllocError>
 #[cycle(print)]
 fn print_frozenset(out: &mut Text, items: &[Value]) -> Result<(), AllocError>
     ensures { OnOk result (out.new ≡ out.old
-        ++ shown_set (codes "frozenset()") (codes "frozenset({") (shown_items [] (views items.now)) (codes "})")
+        ++ shown_set (codes "frozenset()") (codes "frozenset({") (shown_items [] (views items.now))
+        (codes "})")
         (count (views items.now))) }
 {
     if items.is_empty() {
@@ -118,7 +120,9 @@ fn print_frozenset(out: &mut Text, items: &[Value]) -> Result<(), AllocError>
 
 #[cycle(print)]
 fn print_pairs(out: &mut Text, pairs: &[(Value, Value)]) -> Result<(), AllocError>
-    ensures { OnOk result (out.new ≡ out.old ++ between (codes "{") (shown_pairs [] (pair_views pairs.now)) (codes "}")) }
+    ensures { OnOk result
+        (out.new ≡ out.old
+        ++ between (codes "{") (shown_pairs [] (pair_views pairs.now)) (codes "}")) }
 {
     put_char(out, '{')?;
     let mut is_first = true;

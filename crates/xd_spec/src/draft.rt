@@ -92,7 +92,8 @@ impl Draft {
         value: Option<&str>,
     ) -> Result<Result<Draft, SpecFault>, OutOfMemory>
         ensures { IfOk result (λ r.
-            r ≡ with_socket self (option_and_then address_in (option_map (λ v. v.now) value.entry))) }
+            r ≡ with_socket self
+            (option_and_then address_in (option_map (λ v. v.now) value.entry))) }
     {
         let Some(value) = value else {
             return Ok(Err(SpecFault::BadKey));

@@ -48,7 +48,8 @@ fn deal(
 fn shut_all(workers: &[u32], ledger: &mut Ledger, acts: &mut Vec<Entry>) -> Result<(), OutOfMemory>
     requires { all_among workers.now (workers_of ledger.old) ≡ true }
     ensures { OnOk result ((p : Plan) →
-        turn ledger.new p acts.new.items ≡ shut_each workers.now (turn ledger.old p acts.old.items)) }
+        turn ledger.new p acts.new.items ≡
+        shut_each workers.now (turn ledger.old p acts.old.items)) }
 {
     for i in 0..workers.len() {
         shut(workers[i], ledger, acts)?;

@@ -36,7 +36,8 @@ pub(crate) fn idle(alloc: Global, ledger: &Ledger) -> Result<Indices, OutOfMemor
 // How many tests the worker holds, or 0 where it may not be told.
 fn held_open(worker: u32, ledger: &Ledger) -> u32
     requires { in_rota worker ledger.now ≡ true }
-    ensures { result ≡ (if seat_shut worker ledger.now then 0 else length (held worker ledger.now)) }
+    ensures { result ≡
+        (if seat_shut worker ledger.now then 0 else length (held worker ledger.now)) }
 {
     if ledger.is_shut(worker) {
         return 0;

@@ -101,7 +101,8 @@ fn test_of(alloc: Global, table: &Table) -> Result<Test, OutOfMemory>
 }
 
 fn group_of(alloc: Global, table: &Table) -> Result<Option<Text>, OutOfMemory>
-    ensures { IfOk result (λ group. group ≡ option_map chars (text_at (codes "group") (table_view table.now))) }
+    ensures { IfOk result
+        (λ group. group ≡ option_map chars (text_at (codes "group") (table_view table.now))) }
 {
     match text_at(table, "group") {
         Some(group) => Ok(Some(Text::of(alloc, group)?)),
@@ -110,7 +111,9 @@ fn group_of(alloc: Global, table: &Table) -> Result<Option<Text>, OutOfMemory>
 }
 
 fn run_of(alloc: Global, table: &Table) -> Result<Texts, OutOfMemory>
-    ensures { IfOk result (λ run. run ≡ texts_of (unwrap_or (array_at (codes "run") (table_view table.now)) no_items)) }
+    ensures { IfOk result
+        (λ run. run ≡
+        texts_of (unwrap_or (array_at (codes "run") (table_view table.now)) no_items)) }
 {
     match array_at(table, "run") {
         Some(array) => texts_of(alloc, array),

@@ -41,7 +41,8 @@ pub struct Asked {
 #[tactic(auto, unfolding(crate::specs::Asked::asked_of))]
 pub fn asked_of(alloc: Global, matches: &ArgMatches) -> Result<Asked, OutOfMemory>
     ensures asked { IfOk result (λ asked. asked ≡ asked_of (rows_of (found_of matches.now))) }
-    ensures suite { IfOk result (λ asked. asked.suite ≡ path_of (codes "suite") (rows_of (found_of matches.now))) }
+    ensures suite { IfOk result
+        (λ asked. asked.suite ≡ path_of (codes "suite") (rows_of (found_of matches.now))) }
     ensures few { IfOk result (λ asked. IfSome asked.count (λ n. n ≤ 32)) }
     ensures restarts { IfOk result (λ asked. IfSome asked.restarts (λ n. n ≤ 1000)) }
     ensures retries { IfOk result (λ asked. IfSome asked.retries (λ n. n ≤ 100)) }
@@ -136,7 +137,8 @@ fn number(matches: &ArgMatches, id: &str, limit: u32) -> Option<u32>
 }
 
 fn mode(matches: &ArgMatches) -> Option<ModeKind>
-    ensures mode { result ≡ option_and_then mode_named (first_of (codes "dist") (rows_of (found_of matches.now))) }
+    ensures mode { result ≡ option_and_then mode_named
+        (first_of (codes "dist") (rows_of (found_of matches.now))) }
     ensures shared { IfSome result (λ m. m ≢ WithoutWorkers) }
 {
     mode_named(value(matches, "dist")?)

@@ -44,7 +44,8 @@ pub fn worker_matches<'a, 'b>(
     words: &'a [&'b str],
 ) -> Result<Option<ArgMatches<'a>>, OutOfMemory>
     ensures { IfOk result (λ r.
-        option_map (λ m. rows_of (found_of m)) r ≡ rows_in worker_app (map (λ w. w.now) words.now)) }
+        option_map (λ m. rows_of (found_of m)) r ≡
+        rows_in worker_app (map (λ w. w.now) words.now)) }
 {
     let matches = matches_in(worker_command(alloc), words)?;
     Ok(matches)

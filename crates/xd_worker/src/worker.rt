@@ -134,11 +134,13 @@ impl WorkerCore {
     }
 
     fn take(&mut self, acts: &mut WorkerActions, input: WorkerInput) -> Result<(), WorkerFault>
-        ensures does { (w : Worker) → IsWorkerTurn self.old acts.old (worker_turn_of w) → LogsOpen w →
+        ensures does { (w : Worker) → IsWorkerTurn self.old acts.old (worker_turn_of w) →
+            LogsOpen w →
             OnOk result (Does self.new acts.new w input) }
         ensures refused { (w : Worker) → IsWorkerTurn self.old acts.old (worker_turn_of w) →
             IfErr result (FaultHasReason w input) }
-        ensures refuses { (w : Worker) (fault : SideFault) → IsWorkerTurn self.old acts.old (worker_turn_of w) →
+        ensures refuses { (w : Worker) (fault : SideFault) →
+            IsWorkerTurn self.old acts.old (worker_turn_of w) →
             IsInputToRefuse w input fault → IsThisFault fault result }
     {
         match input {
@@ -187,7 +189,8 @@ impl WorkerCore {
     pub fn runs(&self) -> Option<u32>
         ensures running { (h : List HeardInput) → StandsForInputs self.now h →
             result ≡ running_in (worker_after h).duties.service }
-        ensures command { (h : List HeardInput) (test : ℕ) → StandsForInputs self.now h → result ≡ Some test →
+        ensures command { (h : List HeardInput) (test : ℕ) → StandsForInputs self.now h →
+            result ≡ Some test →
             HasTest self.now test }
         ensures at_fault { (w : Worker) → AskedAtFault self.now w →
             result ≡ running_in w.duties.service }
@@ -258,7 +261,8 @@ impl WorkerCore {
 
     // Does what `run_tests` asks for.
     fn carry(&mut self, acts: &mut WorkerActions, channel: u32, ask: Ask) -> Result<(), OutOfMemory>
-        ensures { (t : WorkerTurn) → IsWorkerTurn self.old acts.old t → AllOpen (asked channel ask t).logs →
+        ensures { (t : WorkerTurn) → IsWorkerTurn self.old acts.old t →
+            AllOpen (asked channel ask t).logs →
             OnOk result (IsWorkerTurn self.new acts.new (asked channel ask t)) }
     {
         match ask {
@@ -306,7 +310,8 @@ impl WorkerCore {
         channels: u32,
     ) -> Result<(), OutOfMemory>
         requires { CanTake input }
-        ensures { (t : WorkerTurn) → IsWorkerTurn self.old acts.old t → AllOpen (fed input channels t).logs →
+        ensures { (t : WorkerTurn) → IsWorkerTurn self.old acts.old t →
+            AllOpen (fed input channels t).logs →
             OnOk result (IsWorkerTurn self.new acts.new (fed input channels t)) }
     {
         let Some(fed) = feed(&mut self.tests_call, input, channels)? else {
@@ -319,7 +324,8 @@ impl WorkerCore {
 
     // Nothing is said any more, and no test starts.
     fn stop(&mut self, acts: &mut WorkerActions, channels: u32) -> Result<(), OutOfMemory>
-        ensures { (t : WorkerTurn) → IsWorkerTurn self.old acts.old t → AllOpen (worker_stopped channels t).logs →
+        ensures { (t : WorkerTurn) → IsWorkerTurn self.old acts.old t →
+            AllOpen (worker_stopped channels t).logs →
             OnOk result (IsWorkerTurn self.new acts.new (worker_stopped channels t)) }
     {
         self.stopped = true;

@@ -28,7 +28,8 @@ impl Side {
         ensures next { OnOk result (next_of self.new ≡ next_of self.old + 2) }
         ensures unseen { IfOk result (λ n. slot_of_number self.old n ≡ Unseen) }
         ensures slots { IfOk result (λ n. (c : ℕ) →
-            slot_of_number self.new c ≡ (if n == c then Here fresh_end else slot_of_number self.old c)) }
+            slot_of_number self.new c ≡
+            (if n == c then Here fresh_end else slot_of_number self.old c)) }
         ensures history { (h : List Act) → SideStands self.old h →
             IfOk result (λ n. SideStands self.new (Open_channel n ∷ h)) }
         ensures rest { (parity_of self.new ≡ parity_of self.old)
@@ -98,7 +99,8 @@ impl Side {
             (close_refusal (is_seen (slot_of_number self.old number)) (is_long error) ≡ None) }
         ensures payload { OnOk result (HasErrorPayload error) }
         ensures refused { IfErr result
-            (IsCloseRefusal (close_refusal (is_seen (slot_of_number self.old number)) (is_long error))) }
+            (IsCloseRefusal
+            (close_refusal (is_seen (slot_of_number self.old number)) (is_long error))) }
         ensures slots { OnOk result ((c : ℕ) →
             slot_of_number self.new c ≡ (if number == c then closed_slot
             (slot_of_number self.old c) else slot_of_number self.old c)) }
@@ -125,7 +127,8 @@ impl Side {
             (close_refusal (is_seen (slot_of_number self.old number)) (is_long error) ≡ None) }
         ensures payload { OnOk result (HasErrorPayload error) }
         ensures refused { IfErr result
-            (IsCloseRefusal (close_refusal (is_seen (slot_of_number self.old number)) (is_long error))) }
+            (IsCloseRefusal
+            (close_refusal (is_seen (slot_of_number self.old number)) (is_long error))) }
         ensures slots { OnOk result ((c : ℕ) →
             slot_of_number self.new c ≡ (if number == c then function_ended_slot
             (slot_of_number self.old c) else slot_of_number self.old c)) }

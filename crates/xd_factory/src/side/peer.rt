@@ -116,7 +116,8 @@ impl Side {
             slot_of_number self.new c ≡ heard_slot (parity_of self.old) (said_of word) c
             (slot_of_number self.old c)) }
         ensures fits { OnOk result
-            (entry_count self.old + opened_count (new_at self.old) (names_of (said_of word)) ≤ 4096) }
+            (entry_count self.old
+            + opened_count (new_at self.old) (names_of (said_of word)) ≤ 4096) }
         ensures refused { IfErr result
             (IsHearFault (entry_count self.old + opened_count (new_at self.old)
             (names_of (said_of word)))) }

@@ -51,7 +51,8 @@ impl RunTests {
         outcome: Outcome,
         ms: u64,
     ) -> Result<(), OutOfMemory>
-        ensures { (t : CallTurn) → self.old.running ≡ Some running → IsCallTurn self.old acts.old t →
+        ensures { (t : CallTurn) → self.old.running ≡ Some running →
+            IsCallTurn self.old acts.old t →
             OnOk result (Moves self.new acts.new (told_done running.test outcome ms t)) }
     {
         let close = Ask::CloseLog { log: running.log };
@@ -73,7 +74,8 @@ impl RunTests {
         running: Running,
         bytes: Blob,
     ) -> Result<(), OutOfMemory>
-        ensures { (t : CallTurn) → self.old.running ≡ Some running → IsCallTurn self.old acts.old t →
+        ensures { (t : CallTurn) → self.old.running ≡ Some running →
+            IsCallTurn self.old acts.old t →
             OnOk result (IsCallTurn self.new acts.new (put_out bytes t)) }
     {
         let all = bytes.as_slice();

@@ -39,7 +39,8 @@ impl RunTests {
 
     /// GATEWAY_TERMINATE or the end of the link.
     pub(super) fn stop(&mut self)
-        ensures { (a : Acts) (t : CallTurn) → IsCallTurn self.old a t → IsCallTurn self.new a (call_stopped t) }
+        ensures { (a : Acts) (t : CallTurn) → IsCallTurn self.old a t →
+            IsCallTurn self.new a (call_stopped t) }
     {
         self.phase = Phase::Stopped;
     }

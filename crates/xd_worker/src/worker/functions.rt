@@ -196,7 +196,10 @@ impl WorkerCore {
     }
 
     fn end_long_echo(&mut self, acts: &mut WorkerActions, number: u32) -> Result<(), OutOfMemory>
-        ensures { (t : WorkerTurn) → IsWorkerTurn self.old acts.old t → OnOk result (IsWorkerTurn self.new acts.new (echo_ended number (Some (codes "item is too long")) t)) }
+        ensures { (t : WorkerTurn) → IsWorkerTurn self.old acts.old t →
+            OnOk result
+            (IsWorkerTurn self.new acts.new
+            (echo_ended number (Some (codes "item is too long")) t)) }
     {
         let text = long_item_word(self.alloc)?;
         self.end_echo(acts, number, Some(text))?;

@@ -95,7 +95,8 @@ impl WorkerCore {
     ) -> Result<(), OutOfMemory>
         ensures { (t : WorkerTurn) (end : End) → IsWorkerTurn self.old acts.old t →
             AllOpen (did (taken.EndHanded number end) channels t).logs →
-            OnOk result (IsWorkerTurn self.new acts.new (did (taken.EndHanded number end) channels t)) }
+            OnOk result
+            (IsWorkerTurn self.new acts.new (did (taken.EndHanded number end) channels t)) }
     {
         if self.is_service(number) {
             self.feed(acts, Input::ReceivingEnded, channels)?;
@@ -169,11 +170,13 @@ impl WorkerCore {
         acts: &mut WorkerActions,
         message: Message,
     ) -> Result<(), WorkerFault>
-        ensures does { (w : Worker) → IsWorkerTurn self.old acts.old (worker_turn_of w) → LogsOpen w →
+        ensures does { (w : Worker) → IsWorkerTurn self.old acts.old (worker_turn_of w) →
+            LogsOpen w →
             OnOk result (Does self.new acts.new w (MessageCame message)) }
         ensures refused { (w : Worker) → IsWorkerTurn self.old acts.old (worker_turn_of w) →
             IfErr result (FaultHasReason w (MessageCame message)) }
-        ensures refuses { (w : Worker) (fault : SideFault) → IsWorkerTurn self.old acts.old (worker_turn_of w) →
+        ensures refuses { (w : Worker) (fault : SideFault) →
+            IsWorkerTurn self.old acts.old (worker_turn_of w) →
             IsInputToRefuse w (MessageCame message) fault → IsThisFault fault result }
     {
         let number = message.channel;
@@ -189,7 +192,8 @@ impl WorkerCore {
 
     // The link ended.
     pub(super) fn take_link_end(&mut self, acts: &mut WorkerActions) -> Result<(), OutOfMemory>
-        ensures { (w : Worker) → IsWorkerTurn self.old acts.old (worker_turn_of w) → LogsOpen w →
+        ensures { (w : Worker) → IsWorkerTurn self.old acts.old (worker_turn_of w) →
+            LogsOpen w →
             OnOk result (Does self.new acts.new w LinkEnd) }
     {
         lose(&mut self.side)?;

@@ -99,7 +99,8 @@ impl WorkerCore {
     ) -> Result<(), OutOfMemory>
         ensures { (t : WorkerTurn) → IsWorkerTurn self.old acts.old t →
             AllOpen (worker_turned (SuiteRead suite) channels t).logs →
-            OnOk result (IsWorkerTurn self.new acts.new (worker_turned (SuiteRead suite) channels t)) }
+            OnOk result
+            (IsWorkerTurn self.new acts.new (worker_turned (SuiteRead suite) channels t)) }
     {
         if self.owed {
             self.hold(acts, suite, channels)?;
