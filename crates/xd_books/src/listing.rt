@@ -1,5 +1,5 @@
 // The collections that others are compared with.
-ghost use Rattle.std.specs.Prelude.{◌≡◌, IfOk, OnErr, OnOk, MatchOption, None, Some, if◌then◌else◌};
+ghost use Rattle.std.specs.Prelude.{◌≡◌, IfOk, OnErr, OnOk, MatchOption, None, Some};
 ghost use Rattle.xd_journal.specs.declared.entry.Ids.TheVariants as ids;
 ghost use Rattle.xd_ledger.specs.Collections.{differ_at, key, listed, listed_in, with_list};
 ghost use Rattle.xd_ledger.specs.Plan.{is_each};

@@ -55,9 +55,7 @@ fn kept_of(alloc: Global, outcome: Outcome, output: &[u8]) -> Result<Blob, OutOf
 {
     match outcome {
         Outcome::Failed(_) => Blob::of(alloc, output),
-        _ => Ok(Blob {
-            bytes: Vec::new(alloc),
-        }),
+        _ => Ok(Blob::empty(alloc)),
     }
 }
 

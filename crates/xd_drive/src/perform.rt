@@ -1,5 +1,5 @@
 // The outputs of a journal, performed at a hub.
-ghost use Rattle.std.specs.Prelude.{◌≡◌, ◌∷◌, [], ◌++◌, ℕ, true, OnOk};
+ghost use Rattle.std.specs.Prelude.{◌≡◌, ◌∷◌, [], ℕ, true, OnOk};
 ghost use Rattle.xd_drive.specs.Performing.{Performs, marks_after, marks_after_entry, all_possible, is_kill_of_started, is_start_of, kills_of_started, possible, was_started};
 
 use crate::Hub;

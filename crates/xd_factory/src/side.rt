@@ -1,5 +1,5 @@
 // The table of the channels of one side.
-ghost use Rattle.std.specs.Prelude.{[], ◌≡◌, ◌≤◌, ◌<◌, ◌+◌, ◌==◌, ℕ, IsSome, true, false, Option, None, if◌then◌else◌, length};
+ghost use Rattle.std.specs.Prelude.{[], ◌≡◌, ◌≤◌, ◌<◌, ◌==◌, ℕ, IsSome, true, false, Option, None, if◌then◌else◌, length};
 ghost use Rattle.std.specs.Ordering.{nat_cmp};
 ghost use Rattle.std.specs.BTreeMap as tree;
 ghost use Rattle.std.specs.List.Sorted.{IsStrictlySortedBy};

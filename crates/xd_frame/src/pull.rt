@@ -1,5 +1,5 @@
 // Bytes that are pulled from a source, at most one message's.
-ghost use Rattle.std.specs.Prelude.{◌≡◌, ◌≤◌, ◌<◌, ◌^◌, [], IfOk, IfErr, length, vec_len};
+ghost use Rattle.std.specs.Prelude.{◌≡◌, ◌≤◌, ◌<◌, [], IfOk, IfErr, length, vec_len};
 ghost use Rattle.xd_frame.specs.Header.{InBounds};
 ghost use Rattle.xd_frame.specs.Pull.{missing};
 ghost use Rattle.xd_frame.specs.Pulling.{Draws, ReadsOn, TakesOut, Unread, ended_by, is_cut, is_out_of_memory};

@@ -1,5 +1,5 @@
 // Messages that are written to a sink.
-ghost use Rattle.std.specs.Prelude.{◌≡◌, OnOk, OnErr, is_ok};
+ghost use Rattle.std.specs.Prelude.{OnOk, OnErr, is_ok};
 ghost use Rattle.xd_edge.specs.Faults.{Counted};
 ghost use Rattle.xd_edge.specs.Sink.{Took, TookPart, Printed};
 ghost use Rattle.xd_frame.specs.Message.{frame, frames};

@@ -6,7 +6,6 @@ ghost use Rattle.xd_gateway.specs.Words.{IsWord};
 ghost use Rattle.xd_gateway.specs.Functions.{called_in, call_of, named, name_of, with_kwargs, fail_called, run_tests_called, mode_by_word, call_fault_text, has_no_source};
 
 use crate::{have_text_keys, is_word, text_at};
-use std::alloc::Global;
 use xd_edge::{ModeKind, OutOfMemory, Text};
 use xd_value::Value;
 

@@ -1,5 +1,5 @@
 // Numbers and lists of them. A number that would pass 64 bits is answered as out of memory.
-ghost use Rattle.std.specs.Prelude.{◌≡◌, ◌+◌, ◌==◌, ◌++◌, ◌∷◌, IfOk, map, sum};
+ghost use Rattle.std.specs.Prelude.{◌≡◌, ◌+◌, ◌==◌, IfOk, map, sum};
 ghost use Rattle.std.specs.List.{list_all, list_any, range_with_len};
 
 use std::alloc::Global;

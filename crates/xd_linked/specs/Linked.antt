@@ -2,7 +2,9 @@
 use Rattle.std.specs.Prelude.{◌≡◌, ℕ, ◌++◌, Bool, true, false, not, List, [], All, map, Option, Some, option_map}
 use Rattle.xd_edge.specs.Faults.{Counted, RoseBy}
 use Rattle.xd_edge.specs.Sink.{Sunk}
-use Rattle.xd_link.specs.Spring.{Spring}
+use Rattle.xd_link.specs.Source.{Supply}
+use Rattle.xd_link.specs.Spring.{Spring, spring}
+use Rattle.xd_link.specs.Starter.{Begun}
 use Rattle.xd_link.specs.declared.place.Place.{Place}
 use Rattle.xd_journal.specs.declared.entry.Entry.{Entry}
 use Rattle.xd_journal.specs.declared.journal.Journal.{Journal}
@@ -14,7 +16,7 @@ use Rattle.xd_session.specs.Ends.{is_out_fault}
 use Rattle.xd_drive.specs.Driven.{Broken, IsJournalOf, Whole}
 use Rattle.xd_drive.specs.Going.{HubScene}
 use Rattle.xd_drive.specs.Listed.{is_listed, others_of, starts_of}
-use Rattle.xd_starts.specs.Children.{ToldByStarter}
+use Rattle.xd_starts.specs.Children.{ToldByStarter, told_of}
 use Rattle.xd_group.specs.Fates.{has_link, is_linked, is_refused, is_unlinked, workers_with}
 use Rattle.xd_group.specs.Few.{RoseFor, count_with}
 use Rattle.xd_group.specs.InStep.{all_started}
@@ -24,6 +26,8 @@ use Rattle.xd_group.specs.Returned.{RanSo, end_told}
 use Rattle.xd_group.specs.Tells.{marks_told, workers_started}
 use Rattle.xd_group.specs.Unsaid.{SaidUnlinked}
 use Rattle.xd_group.specs.declared.fate.Fate.{Fate}
+use Rattle.xd_group.specs.declared.finish.LinkEnd.{LinkEnd}
+use Rattle.xd_linked.specs.declared.linked.LinkedSuite.{LinkedSuite}
 
 -- what a run is made of: the path of its suite, its settings, and the places of its workers, by slots
 -- Example: two workers, the second in another folder.
@@ -31,6 +35,10 @@ pub record Setup : Type 0 where
   pub suite : List ℕ
   pub settings : Settings
   pub places : List Place
+
+-- the run that a suite asks for
+abbrev pub setup_of : LinkedSuite → Setup
+setup_of s = record { suite = s.path; settings = s.settings; places = s.places.items }
 
 -- what is seen of a hub that took these calls and gave these news, and of the output
 abbrev pub scene_told : List Entry → List News → Option Sunk → HubScene
@@ -53,6 +61,10 @@ pub record EndedLink : Type 0 where
 abbrev pub ended_link : ℕ → Bool → Spring → Option Sunk → ℕ → EndedLink
 ended_link worker killed s sunk writes = record { worker = worker; killed = killed; link = link_of s sunk writes }
 
+-- the links that were ended, by what their sources and their sinks tell
+abbrev pub ended_links : {A B : Type 0} → (A → Option Supply) → (A → Bool) → (A → ℕ) → (B → Option Sunk) → (B → ℕ) → List (LinkEnd A B) → List EndedLink
+ended_links supply is_ended faults sunk writes = map (λ l. ended_link l.worker l.killed (spring (supply l.source) (is_ended l.source) (faults l.source)) (sunk l.sink) (writes l.sink))
+
 -- what is seen of the outside of a run: what the starter tells, the counts of faults of starter and crew, and the output
 pub record LinksSeen : Type 0 where
   pub begun : Option ToldByStarter
@@ -60,6 +72,10 @@ pub record LinksSeen : Type 0 where
   pub crew_faults : ℕ
   pub sunk : Option Sunk
   pub out_faults : ℕ
+
+-- the outside, by what the starter, the crew and the output tell
+abbrev pub links_seen : Option Begun → ℕ → ℕ → Option Sunk → ℕ → LinksSeen
+links_seen begun starter_faults crew_faults sunk out_faults = record { begun = option_map told_of begun; starter_faults = starter_faults; crew_faults = crew_faults; sunk = sunk; out_faults = out_faults }
 
 -- The starter told one start at the place of its slot for each start of a worker, which failed where the worker has no link,
 -- and of each link whether its kill was asked for, and one reaping.

@@ -1,8 +1,7 @@
 // A suite is run on workers.
-ghost use Rattle.std.specs.Prelude.{◌≡◌, ◌≤◌, [], true, not, map, length, option_map, vec_len, Ok, IfOk, OnOk, OnErr};
+ghost use Rattle.std.specs.Prelude.{◌≡◌, ◌≤◌, [], true, not, length, vec_len, Ok, IfOk, OnOk, OnErr};
 ghost use Rattle.std.specs.Str.{encode_utf8_all};
 ghost use Rattle.xd_edge.specs.Faults.{Counted};
-ghost use Rattle.xd_link.specs.Spring.{spring};
 ghost use Rattle.xd_session.specs.Ends.{is_out_fault};
 ghost use Rattle.xd_ledger.specs.Ending.{stop_of};
 ghost use Rattle.xd_report.specs.Status.{status_of};
@@ -11,8 +10,8 @@ ghost use Rattle.xd_note.specs.Noted.{noted};
 ghost use Rattle.xd_session.specs.Stands.{CanBegin, StandsForNews};
 ghost use Rattle.xd_ledger.specs.State.{no_one};
 ghost use Rattle.std.specs.List.{list_all};
-ghost use Rattle.xd_starts.specs.Children.{is_killed_and_reaped, told_of};
-ghost use Rattle.xd_linked.specs.Linked.{LinkedRun, RunsLinked, ended_link};
+ghost use Rattle.xd_starts.specs.Children.{is_killed_and_reaped};
+ghost use Rattle.xd_linked.specs.Linked.{LinkedRun, RunsLinked, ended_links, links_seen, setup_of};
 
 use std::alloc::Global;
 use std::sync::Wait;
@@ -75,23 +74,12 @@ fn run_over<R: Wait, M: Mode, St: Starter, C: Crew<Reader<St::Src>>, O: Sink>(
           places = hub.old.places.items;
         })
         r.0.journal
-        (map (λ l. ended_link l.worker l.killed
-        (spring (St.Src.supply l.source) (St.Src.is_ended l.source) (St.Src.faults l.source))
-        (St.Snk.sunk l.sink) (St.Snk.faults l.sink)) r.1.items)
-        (record {
-          begun = option_map told_of (St.begun hub.old.children.first.value);
-          starter_faults = St.faults hub.old.children.first.value;
-          crew_faults = C.faults hub.old.group.first.value;
-          sunk = O.sunk out.old;
-          out_faults = O.faults out.old;
-        })
-        (record {
-          begun = option_map told_of (St.begun hub.new.children.starter);
-          starter_faults = St.faults hub.new.children.starter;
-          crew_faults = C.faults hub.new.group.links.crew;
-          sunk = O.sunk out.new;
-          out_faults = O.faults out.new;
-        })) }
+        (ended_links St.Src.supply St.Src.is_ended St.Src.faults St.Snk.sunk St.Snk.faults
+        r.1.items)
+        (links_seen (St.begun hub.old.children.first.value) (St.faults hub.old.children.first.value)
+        (C.faults hub.old.group.first.value) (O.sunk out.old) (O.faults out.old))
+        (links_seen (St.begun hub.new.children.starter) (St.faults hub.new.children.starter)
+        (C.faults hub.new.group.links.crew) (O.sunk out.new) (O.faults out.new))) }
     ensures counted { IfOk result (λ r.
         Counted (not (is_out_fault (stop_of r.0.journal))) (O.faults out.old) (O.faults out.new)) }
     ensures later { O.faults out.old ≤ O.faults out.new }
@@ -149,26 +137,13 @@ pub fn run_linked<R: Wait, St: Starter, C: Crew<Reader<St::Src>>, O: Sink>(
     requires settings { CanBegin suite.settings }
     requires slots { suite.settings.workers ≤ vec_len suite.places }
     requires short { length (encode_utf8_all suite.path) ≤ 65536 }
-    ensures ran { IfOk result (λ e. LinkedRun
-        (record { suite = suite.path; settings = suite.settings; places = suite.places.items })
-        e.journal e.status
-        (map (λ l. ended_link l.worker l.killed
-        (spring (St.Src.supply l.source) (St.Src.is_ended l.source) (St.Src.faults l.source))
-        (St.Snk.sunk l.sink) (St.Snk.faults l.sink)) e.links.items)
-        (record {
-          begun = option_map told_of (St.begun starter);
-          starter_faults = St.faults starter;
-          crew_faults = C.faults crew;
-          sunk = O.sunk out.old;
-          out_faults = O.faults out.old;
-        })
-        (record {
-          begun = option_map told_of (St.begun e.starter);
-          starter_faults = St.faults e.starter;
-          crew_faults = C.faults e.crew;
-          sunk = O.sunk out.new;
-          out_faults = O.faults out.new;
-        })) }
+    ensures ran { IfOk result (λ e. LinkedRun (setup_of suite) e.journal e.status
+        (ended_links St.Src.supply St.Src.is_ended St.Src.faults St.Snk.sunk St.Snk.faults
+        e.links.items)
+        (links_seen (St.begun starter) (St.faults starter)
+        (C.faults crew) (O.sunk out.old) (O.faults out.old))
+        (links_seen (St.begun e.starter) (St.faults e.starter)
+        (C.faults e.crew) (O.sunk out.new) (O.faults out.new))) }
     ensures later { O.faults out.old ≤ O.faults out.new }
 {
     let Settings {
@@ -210,26 +185,13 @@ fn run_in<R: Wait, M: Mode, St: Starter, C: Crew<Reader<St::Src>>, O: Sink>(
     requires fresh { M.stands mode (no_one suite.settings).plan }
     requires slots { suite.settings.workers ≤ vec_len suite.places }
     requires short { length (encode_utf8_all suite.path) ≤ 65536 }
-    ensures ran { IfOk result (λ e. LinkedRun
-        (record { suite = suite.path; settings = suite.settings; places = suite.places.items })
-        e.journal e.status
-        (map (λ l. ended_link l.worker l.killed
-        (spring (St.Src.supply l.source) (St.Src.is_ended l.source) (St.Src.faults l.source))
-        (St.Snk.sunk l.sink) (St.Snk.faults l.sink)) e.links.items)
-        (record {
-          begun = option_map told_of (St.begun starter);
-          starter_faults = St.faults starter;
-          crew_faults = C.faults crew;
-          sunk = O.sunk out.old;
-          out_faults = O.faults out.old;
-        })
-        (record {
-          begun = option_map told_of (St.begun e.starter);
-          starter_faults = St.faults e.starter;
-          crew_faults = C.faults e.crew;
-          sunk = O.sunk out.new;
-          out_faults = O.faults out.new;
-        })) }
+    ensures ran { IfOk result (λ e. LinkedRun (setup_of suite) e.journal e.status
+        (ended_links St.Src.supply St.Src.is_ended St.Src.faults St.Snk.sunk St.Snk.faults
+        e.links.items)
+        (links_seen (St.begun starter) (St.faults starter)
+        (C.faults crew) (O.sunk out.old) (O.faults out.old))
+        (links_seen (St.begun e.starter) (St.faults e.starter)
+        (C.faults e.crew) (O.sunk out.new) (O.faults out.new))) }
     ensures later { O.faults out.old ≤ O.faults out.new }
 {
     let LinkedSuite {

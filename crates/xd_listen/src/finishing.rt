@@ -1,5 +1,5 @@
 // What is left of a link that is served no more.
-ghost use Rattle.std.specs.Prelude.{◌≡◌, ℕ, [], Bool, Some};
+ghost use Rattle.std.specs.Prelude.{◌≡◌, ℕ, Bool, Some};
 ghost use Rattle.xd_link.specs.Spring.{spring};
 ghost use Rattle.xd_post.specs.Mails.{mails};
 ghost use Rattle.xd_post.specs.Post.{put, ring_of_sender};

@@ -14,12 +14,10 @@ ghost use Rattle.xd_worker.specs.Stands.{HasTest, Stood};
 use crate::server::{Door, Halt, Server};
 use crate::stop::Stop;
 use crate::suite::read_suite;
-use std::alloc::Global;
 use std::sync::Wait;
 use xd_edge::{Blob, Clock, Files, OutOfMemory, Sink, Text, copy_texts};
 use xd_frame::{Kind, Message};
 use xd_journal::Outcome;
-use xd_reader::{LinkNews, LinkStop};
 use xd_worker::{WorkerFault, WorkerInput};
 
 impl<N: Sink> Server<N> {

@@ -1,5 +1,5 @@
 // A worker whose messages are written to its link.
-ghost use Rattle.std.specs.Prelude.{◌≡◌, ◌≤◌, not, List, ℕ, IfOk, IfErr, OnOk, OnErr};
+ghost use Rattle.std.specs.Prelude.{◌≡◌, ◌≤◌, not, List, IfOk, IfErr, OnOk, OnErr};
 ghost use Rattle.xd_frame.specs.Message.{frames};
 ghost use Rattle.xd_frame.specs.Writing.{Writes, WritesMore, CountAfter, CountSince};
 ghost use Rattle.xd_listen.specs.Speaking.{greeting};

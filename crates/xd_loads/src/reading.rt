@@ -1,5 +1,5 @@
 // Payloads.
-ghost use Rattle.std.specs.Prelude.{◌≡◌, ◌++◌, ℕ, ◌<◌, IfOk, IfErr};
+ghost use Rattle.std.specs.Prelude.{ℕ, ◌<◌, IfOk, IfErr};
 ghost use Rattle.xd_value.specs.Payload.{IsPayload, IsRefusal, IsValue, IsLoadFault, FirstFault, Stops, IsPlaced};
 ghost use Rattle.xd_loads.specs.Seats.{IsStack, cells_of};
 ghost use Rattle.xd_value.specs.Tree.{Tree};

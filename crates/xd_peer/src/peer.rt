@@ -1,5 +1,5 @@
 // One link: its gateway, and what was taken of it, told to it and said of it.
-ghost use Rattle.std.specs.Prelude.{◌≡◌, ◌≤◌, ◌∷◌, ◌++◌, [], ℕ, ◌||◌, List, Bool, true, false, ⊤, None, IfOk, OnOk, IfSome, IsSome, length, option_to_list};
+ghost use Rattle.std.specs.Prelude.{◌≡◌, ◌≤◌, ◌∷◌, ◌++◌, [], ℕ, ◌||◌, List, Bool, true, false, None, IfOk, OnOk, IfSome, IsSome, length, option_to_list};
 ghost use Rattle.std.specs.List.{list_any};
 ghost use Rattle.std.specs.Str.{encode_utf8_all};
 ghost use Rattle.xd_edge.specs.declared.mode.ModeKind.{ModeKind};

@@ -9,7 +9,7 @@ ghost use Rattle.xd_factory.specs.View.{next_of};
 ghost use Rattle.xd_remote.specs.Calls.{call_tree, exec_opened, exec_wanted, kwargs_of, parts_tree, say_wanted, status_wanted};
 ghost use Rattle.xd_remote.specs.Opening.{IsWanted, IsPayloadOf};
 
-use crate::side::{empty, open_call, open_next};
+use crate::side::{open_call, open_next};
 use crate::{Gateway, GatewayFault};
 use std::alloc::Global;
 use xd_edge::{Blob, OutOfMemory, Sink, Text};
@@ -60,7 +60,7 @@ impl<K: Sink> Gateway<K> {
             return Err(GatewayFault::SendFault);
         }
         let number = open_next(&mut self.side)?;
-        let message = Message::of(Kind::Status, number, empty(self.alloc));
+        let message = Message::of(Kind::Status, number, Blob::empty(self.alloc));
         self.write(&message)?;
         Ok(number)
     }

@@ -9,9 +9,9 @@ ghost use Rattle.xd_remote.specs.Calls.{terminate_message};
 ghost use Rattle.xd_remote.specs.Line.{ClosesNow, write_answer};
 
 use crate::GatewayFault;
-use crate::side::{empty, take};
+use crate::side::take;
 use std::alloc::Global;
-use xd_edge::Sink;
+use xd_edge::{Blob, Sink};
 use xd_factory::{Parity, Side, SideFault, Taken};
 use xd_frame::{Kind, Message, print_frame};
 
@@ -67,7 +67,7 @@ impl<K: Sink> Gateway<K> {
         ensures rest { KeepsChannels self.old self.new }
         ensures stands { (h : List Heard) → StandsForHeard self.old h → StandsForHeard self.new h }
     {
-        let message = Message::of(Kind::Terminate, 0, empty(self.alloc));
+        let message = Message::of(Kind::Terminate, 0, Blob::empty(self.alloc));
         self.print(&message);
         self.close_sink();
         written(self.is_broken)

@@ -1,5 +1,5 @@
 // The calls of the side, by its table.
-ghost use Rattle.std.specs.Prelude.{◌≡◌, ◌≤◌, [], IfOk, IfErr, OnOk, OnErr, Some, None};
+ghost use Rattle.std.specs.Prelude.{◌≡◌, ◌≤◌, IfOk, IfErr, OnOk, OnErr, Some, None};
 ghost use Rattle.xd_factory.specs.View.{next_of};
 ghost use Rattle.xd_factory.specs.Said.{IsFault};
 ghost use Rattle.xd_factory.specs.SideTable.{opened, channel_table};
@@ -9,17 +9,8 @@ ghost use Rattle.xd_remote.specs.Opening.{IsUnopened, opening_fault};
 ghost use Rattle.xd_remote.specs.Taking.{IsTaken, IsFaultOf, IsToRefuse};
 
 use crate::GatewayFault;
-use std::alloc::Global;
-use xd_edge::Blob;
 use xd_factory::{OpenFault, Side, SideFault, Taken};
 use xd_frame::Message;
-
-/// The payload of a message that has none.
-pub fn empty(alloc: Global) -> Blob
-    ensures { result ≡ [] }
-{
-    Blob::from_vec(Vec::new(alloc))
-}
 
 /// Takes a message.
 pub fn take(side: &mut Side, message: Message) -> Result<Taken, SideFault>

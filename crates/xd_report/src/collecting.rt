@@ -1,5 +1,5 @@
 // Collections, and the share.
-ghost use Rattle.std.specs.Prelude.{◌≡◌, List, IfOk, OnOk, if◌then◌else◌};
+ghost use Rattle.std.specs.Prelude.{◌≡◌, List, IfOk, OnOk};
 ghost use Rattle.xd_ledger.specs.Books.{marked, on_table};
 ghost use Rattle.xd_ledger.specs.Collections.{ids_of, unequal, listed, with_list};
 ghost use Rattle.xd_ledger.specs.Plan.{is_each};

@@ -1,5 +1,5 @@
 // Results, deaths and stops.
-ghost use Rattle.std.specs.Prelude.{◌≡◌, ℕ, ◌+◌, List, [], ◌∷◌, OnOk, Some};
+ghost use Rattle.std.specs.Prelude.{ℕ, List, [], ◌∷◌, OnOk, Some};
 ghost use Rattle.xd_journal.specs.declared.entry.Entry.TheVariants.{Done, Finished, Refused};
 ghost use Rattle.xd_ledger.specs.Books.{on_table};
 ghost use Rattle.xd_ledger.specs.Plan.{base, items_named};

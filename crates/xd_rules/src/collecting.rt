@@ -1,5 +1,5 @@
 // A worker collected: it joins, and the last one that was missing brings the share.
-ghost use Rattle.std.specs.Prelude.{◌≡◌, ◌&&◌, ◌≤◌, nat_le, length, sum, true, false, None, [], ◌∷◌, ℕ, OnOk, IfOk, if◌then◌else◌};
+ghost use Rattle.std.specs.Prelude.{◌≡◌, ◌&&◌, ◌≤◌, nat_le, length, sum, true, false, None, [], OnOk, IfOk, if◌then◌else◌};
 ghost use Rattle.std.specs.List.{list_all};
 ghost use Rattle.xd_ledger.specs.Calls.{Turned};
 ghost use Rattle.xd_ledger.specs.Meaning.{given_ids};

@@ -1,5 +1,5 @@
 // What the session itself knows of the plan of a run.
-ghost use Rattle.std.specs.Prelude.{◌≡◌, ◌+◌, ◌≤◌, ◌==◌, ℕ, [], None, Some, OnOk, sum, if◌then◌else◌};
+ghost use Rattle.std.specs.Prelude.{◌≡◌, ◌+◌, ◌≤◌, ◌==◌, [], None, Some, OnOk, sum};
 ghost use Rattle.xd_ledger.specs.Sound.{most_items};
 ghost use Rattle.xd_ledger.specs.Deaths.{steal_without};
 ghost use Rattle.xd_run_books.specs.Known.{asked_by, steal_of, first_item, known_by, steal_told, where_is};

@@ -174,7 +174,7 @@ impl Logs {
             number,
             index,
             is_open: true,
-            bytes: Blob::from_vec(Vec::new(alloc)),
+            bytes: Blob::empty(alloc),
         })?;
         Ok(())
     }

@@ -1,5 +1,5 @@
 // The rota of a run: who holds which tests.
-ghost use Rattle.std.specs.Prelude.{◌≡◌, ◌==◌, Some, None, true, [], ◌∷◌, length, drop, OnOk, IfOk, if◌then◌else◌};
+ghost use Rattle.std.specs.Prelude.{◌≡◌, ◌==◌, Some, None, true, [], ◌∷◌, length, drop, OnOk, IfOk};
 ghost use Rattle.xd_ledger.specs.Books.{on_table};
 ghost use Rattle.xd_ledger.specs.Numbers.{all_among, all_distinct, first_of};
 ghost use Rattle.xd_ledger.specs.Retry.{is_retry};

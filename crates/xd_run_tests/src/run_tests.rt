@@ -7,7 +7,7 @@ mod output;
 mod steal;
 mod suite;
 
-use crate::ask::{Acts, Ask};
+use crate::ask::Acts;
 use crate::input::Input;
 use crate::line_entry::{LineEntry, Standing};
 use crate::phase::Phase;

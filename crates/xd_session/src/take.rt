@@ -57,9 +57,9 @@ impl<M: Mode> Core<M> {
                     let bytes = first_bytes(alloc, self.logs.bytes_of(worker), count)?;
                     return Ok(bytes);
                 }
-                Ok(Blob::from_vec(Vec::new(alloc)))
+                Ok(Blob::empty(alloc))
             }
-            None => Ok(Blob::from_vec(Vec::new(alloc))),
+            None => Ok(Blob::empty(alloc)),
         }
     }
 
@@ -73,7 +73,7 @@ impl<M: Mode> Core<M> {
         ensures low { IfOk result (λ b. self.now.spent + length b ≤ most_of_all) }
     {
         if self.state.books.is_retry(worker) {
-            return Ok(Blob::from_vec(Vec::new(alloc)));
+            return Ok(Blob::empty(alloc));
         }
         let output = self.head_output(alloc, worker)?;
         Ok(output)
@@ -93,7 +93,7 @@ impl<M: Mode> Core<M> {
                 let output = self.head_output(alloc, worker)?;
                 Ok(output)
             }
-            Outcome::Passed | Outcome::Skipped => Ok(Blob::from_vec(Vec::new(alloc))),
+            Outcome::Passed | Outcome::Skipped => Ok(Blob::empty(alloc)),
         }
     }
 

@@ -1,5 +1,4 @@
 // Gateways over a sink in memory.
-ghost use Rattle.std.specs.Prelude.{◌≡◌, []};
 
 mod rows;
 

@@ -1,13 +1,12 @@
 -- What a run on workers comes to.
-use Rattle.std.specs.Prelude.{ℕ, ◌≡◌, List, Option, Some, None, option_map}
+use Rattle.std.specs.Prelude.{ℕ, ◌≡◌, List, Option, Some, None}
 use Rattle.xd_journal.specs.declared.journal.Journal.{Journal}
-use Rattle.xd_starts.specs.Children.{told_of}
-use Rattle.xd_linked.specs.Linked.{EndedLink, LinkedRun, LinksSeen, Setup}
+use Rattle.xd_linked.specs.Linked.{EndedLink, LinkedRun, LinksSeen, Setup, links_seen}
 use Rattle.xd_top.specs.Outside.{Outside}
 
 -- what a run on workers sees of the outside
 abbrev pub seen_by_run : Outside → LinksSeen
-seen_by_run o = record { begun = option_map told_of o.starter.begun; starter_faults = o.starter.faults; crew_faults = o.crews.readers; sunk = o.streams.out.sunk; out_faults = o.streams.out.faults }
+seen_by_run o = links_seen o.starter.begun o.starter.faults o.crews.readers o.streams.out.sunk o.streams.out.faults
 
 -- The suite was run on workers. Its file is read by them, and the programs of its tests are theirs: this program reads no
 -- file, starts no program of a test, hands no job to the crew that runs programs, and does not ask its clock.

@@ -1,7 +1,6 @@
 // The top call.
-ghost use Rattle.std.specs.Prelude.{◌≡◌, [], map, false, IfNone, IfOk};
-ghost use Rattle.xd_link.specs.Spring.{spring};
-ghost use Rattle.xd_linked.specs.Linked.{ended_link};
+ghost use Rattle.std.specs.Prelude.{◌≡◌, [], false, IfNone, IfOk};
+ghost use Rattle.xd_linked.specs.Linked.{ended_links};
 ghost use Rattle.xd_edge.specs.Clock.{ticking};
 ghost use Rattle.xd_top.specs.Top.{Did, has_links};
 ghost use Rattle.xd_words.specs.Words.{plan_of};
@@ -82,9 +81,8 @@ pub fn xdrun<
         (record {
           status = e.status;
           journal = e.journal;
-          links = map (λ l. ended_link l.worker l.killed
-              (spring (St.Src.supply l.source) (St.Src.is_ended l.source) (St.Src.faults l.source))
-              (St.Snk.sunk l.sink) (St.Snk.faults l.sink)) e.links.items;
+          links = ended_links St.Src.supply St.Src.is_ended St.Src.faults St.Snk.sunk
+              St.Snk.faults e.links.items;
         })
         (record {
           streams = record {

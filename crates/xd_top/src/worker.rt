@@ -1,7 +1,6 @@
 // The commands that serve one link as a worker.
-ghost use Rattle.std.specs.Prelude.{◌≡◌, None, map, IfOk};
-ghost use Rattle.xd_link.specs.Spring.{spring};
-ghost use Rattle.xd_linked.specs.Linked.{ended_link};
+ghost use Rattle.std.specs.Prelude.{◌≡◌, None, IfOk};
+ghost use Rattle.xd_linked.specs.Linked.{ended_links};
 ghost use Rattle.xd_edge.specs.Clock.{ticking};
 ghost use Rattle.xd_top.specs.Worker.{DidServe};
 
@@ -38,9 +37,8 @@ pub fn serve_at<
 ) -> Result<RunEnd<St, C, K>, OutOfMemory>
     ensures journal { IfOk result (λ e. e.journal ≡ None) }
     ensures did { IfOk result (λ e. DidServe place.now
-        (map (λ l. ended_link l.worker l.killed
-        (spring (St.Src.supply l.source) (St.Src.is_ended l.source) (St.Src.faults l.source))
-        (St.Snk.sunk l.sink) (St.Snk.faults l.sink)) e.links.items)
+        (ended_links St.Src.supply St.Src.is_ended St.Src.faults St.Snk.sunk St.Snk.faults
+        e.links.items)
         e.status
         (record {
           files = record { held = F.held files.old; faults = F.faults files.old };

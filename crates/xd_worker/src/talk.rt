@@ -268,8 +268,5 @@ pub fn tell_status(
         Err(DumpFault::OutOfMemory) => return Err(OutOfMemory),
         Err(_) => (),
     }
-    put(
-        say,
-        Message::of(Kind::Close, number, Blob::from_vec(Vec::new(alloc))),
-    )
+    put(say, Message::of(Kind::Close, number, Blob::empty(alloc)))
 }

@@ -1,5 +1,5 @@
 // The call of `run_tests` on a link.
-ghost use Rattle.std.specs.Prelude.{◌≡◌, ◌∷◌, ℕ, IfOk, Option, Some};
+ghost use Rattle.std.specs.Prelude.{◌≡◌, IfOk, Option, Some};
 ghost use Rattle.xd_run_tests.specs.Turns.{CanTake};
 ghost use Rattle.xd_run_tests.specs.declared.input.Input.{Input};
 

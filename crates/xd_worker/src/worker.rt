@@ -1,5 +1,5 @@
 // The worker of one link.
-ghost use Rattle.std.specs.Prelude.{◌≡◌, ◌&&◌, is_none, ◌<◌, ◌^◌, ◌++◌, ◌∷◌, [], ℕ, List, length, IfOk, IfErr, OnOk, Option, Some, None, Ok, Err};
+ghost use Rattle.std.specs.Prelude.{◌≡◌, ◌&&◌, is_none, ◌<◌, [], ℕ, List, length, IfOk, IfErr, OnOk, Option, Some, None, Ok, Err};
 
 mod functions;
 mod messages;
@@ -7,7 +7,7 @@ mod suites;
 
 use crate::input::{WorkerActions, WorkerFault, WorkerInput};
 use crate::talk::{announce, close_log, end_function, send_piece};
-use crate::tests_call::{Fed, TestsCall, feed};
+use crate::tests_call::{TestsCall, feed};
 use std::alloc::Global;
 use xd_edge::{OutOfMemory, Text};
 use xd_factory::{Parity, Side};

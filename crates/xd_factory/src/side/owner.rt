@@ -1,5 +1,5 @@
 // The calls of the owner of a side.
-ghost use Rattle.std.specs.Prelude.{◌≡◌, ◌≢◌, ◌≤◌, ◌<◌, ◌+◌, ◌==◌, ◌↔◌, ℕ, map, IfOk, IfErr, OnErr, OnOk, IsErr, IsErrOf, List, [], ◌∷◌, true, false, Option, Some, None, if◌then◌else◌};
+ghost use Rattle.std.specs.Prelude.{◌≡◌, ◌≢◌, ◌≤◌, ◌<◌, ◌+◌, ◌==◌, ◌↔◌, ℕ, map, IfOk, IfErr, OnErr, OnOk, IsErr, IsErrOf, List, ◌∷◌, true, false, Option, Some, None, if◌then◌else◌};
 ghost use Rattle.xd_value.specs.Tree.{text};
 ghost use Rattle.xd_value.specs.View.{view};
 ghost use Rattle.xd_value.specs.Canonical.{dumped};
@@ -163,8 +163,16 @@ impl Side {
         }
         match self.give_up_entry(number) {
             GivenUp::Nothing => Ok(None),
-            GivenUp::SayClose => Ok(Some(Message::of(Kind::Close, number, empty(self.alloc)))),
-            GivenUp::SayLast => Ok(Some(Message::of(Kind::LastMessage, number, empty(self.alloc)))),
+            GivenUp::SayClose => Ok(Some(Message::of(
+                Kind::Close,
+                number,
+                Blob::empty(self.alloc),
+            ))),
+            GivenUp::SayLast => Ok(Some(Message::of(
+                Kind::LastMessage,
+                number,
+                Blob::empty(self.alloc),
+            ))),
         }
     }
 
@@ -316,7 +324,7 @@ fn closing_of(alloc: Global, number: u32, error: Option<Text>) -> Result<Message
     ensures refused { IfErr result (IsCloseRefusal (close_refusal true (is_long error))) }
 {
     match error {
-        None => Ok(Message::of(Kind::Close, number, empty(alloc))),
+        None => Ok(Message::of(Kind::Close, number, Blob::empty(alloc))),
         Some(text) => match dumps(alloc, &value_of(text)) {
             Ok(payload) => Ok(Message::of(Kind::CloseError, number, payload)),
             Err(fault) => Err(close_fault(fault)),
@@ -339,11 +347,4 @@ fn close_fault(fault: DumpFault) -> CloseFault
         DumpFault::OutOfMemory => CloseFault::OutOfMemory,
         _ => CloseFault::TooLong,
     }
-}
-
-// No bytes.
-fn empty(alloc: Global) -> Blob
-    ensures { result ≡ [] }
-{
-    Blob::from_vec(Vec::new(alloc))
 }

@@ -1,5 +1,5 @@
 // The calls that say something to the peer.
-ghost use Rattle.std.specs.Prelude.{◌≡◌, ◌≤◌, [], true, false, None, Err, IfErr, OnOk, OnErr, IsErrOf};
+ghost use Rattle.std.specs.Prelude.{◌≡◌, ◌≤◌, true, false, None, Err, IfErr, OnOk, OnErr, IsErrOf};
 ghost use Rattle.xd_value.specs.View.{view};
 ghost use Rattle.xd_frame.specs.Message.{max_channel};
 ghost use Rattle.xd_value.specs.Canonical.{dumped, IsDump};
@@ -7,7 +7,6 @@ ghost use Rattle.xd_factory.specs.Slot.{is_here, is_seen};
 ghost use Rattle.xd_factory.specs.Table.{is_long, close_refusal, send_refusal, sent_gives, IsCloseRefusal, IsSent};
 
 use super::{GiveUpFault, LinkedSide, say, say_any};
-use std::alloc::Global;
 use xd_edge::{Blob, OutOfMemory, Text};
 use xd_factory::{CloseFault, SendFault};
 use xd_frame::{Kind, Message};
@@ -68,7 +67,7 @@ impl LinkedSide {
         }
         say(
             &mut self.said,
-            Message::of(Kind::Status, number, empty(self.alloc)),
+            Message::of(Kind::Status, number, Blob::empty(self.alloc)),
         );
         Ok(())
     }
@@ -88,7 +87,7 @@ impl LinkedSide {
         say(&mut self.said, Message::of(Kind::Item, number, payload));
         say(
             &mut self.said,
-            Message::of(Kind::Close, number, empty(self.alloc)),
+            Message::of(Kind::Close, number, Blob::empty(self.alloc)),
         );
         Ok(())
     }
@@ -103,7 +102,7 @@ impl LinkedSide {
         }
         say(
             &mut self.said,
-            Message::of(Kind::Terminate, 0, empty(self.alloc)),
+            Message::of(Kind::Terminate, 0, Blob::empty(self.alloc)),
         );
         Ok(())
     }
@@ -171,11 +170,4 @@ impl LinkedSide {
             Err(_) => Err(GiveUpFault::Unknown),
         }
     }
-}
-
-// No bytes.
-fn empty(alloc: Global) -> Blob
-    ensures { result ≡ [] }
-{
-    Blob::from_vec(Vec::new(alloc))
 }

@@ -6,7 +6,7 @@
 // their order, and, as `r2`, how often a crashed test is tried again.
 // News and entries are those of `words`; in the text, too, more than eight of one character are written x*9, and / is a
 // newline.
-ghost use Rattle.std.specs.Prelude.{◌≡◌, [], IfOk};
+ghost use Rattle.std.specs.Prelude.{◌≡◌, IfOk};
 ghost use Rattle.xd_edge.specs.declared.mode.ModeKind.TheVariants.{Load as InModeLoad};
 ghost use Rattle.xd_ledger.specs.State.{no_one};
 ghost use Rattle.xd_session.specs.Stands.{CanBegin};

@@ -1,5 +1,5 @@
 // Calls of functions, and the functions `echo` and `fail`.
-ghost use Rattle.std.specs.Prelude.{◌≡◌, ℕ, IfOk, OnOk, Option, Some, None, unwrap_or, codes};
+ghost use Rattle.std.specs.Prelude.{◌≡◌, IfOk, OnOk, Option, Some, None, unwrap_or, codes};
 ghost use Rattle.xd_value.specs.View.{view};
 
 use super::WorkerCore;

@@ -1,5 +1,5 @@
 // The suite, and what the running test's program gave.
-ghost use Rattle.std.specs.Prelude.{◌≡◌, ℕ, IfOk, OnOk, IsSome, length, ◌<◌, ◌^◌, Option, Some, None};
+ghost use Rattle.std.specs.Prelude.{◌≡◌, IfOk, OnOk, IsSome, length, ◌<◌, ◌^◌, Option, Some, None};
 
 use super::WorkerCore;
 use crate::input::WorkerActions;
