@@ -1,6 +1,9 @@
 //! The program: `main`, which hands the real outside to the top call.
 #![tactic(auto)]
 
+ghost use Rattle.std.specs.Prelude.{◌≡◌, [], IfOk};
+ghost use Rattle.std.specs.Process.{exit_status};
+
 use std::alloc::Global;
 use std::io::BufWriter;
 use std::process::ExitCode;
@@ -26,7 +29,9 @@ fn words_of(rt: &(impl Env + AllocGlobal), alloc: Global) -> io::Result<(Text, T
 }
 
 // Where a word is no UTF-8: a faulty command line, as no word at all is.
-fn no_words(alloc: Global) -> (Text, Texts) {
+fn no_words(alloc: Global) -> (Text, Texts)
+    ensures none { result.1 ≡ [] }
+{
     let items = Vec::new(alloc);
     (Text::from_string(String::new(alloc)), Texts { items })
 }
@@ -77,7 +82,10 @@ fn main(rt: HostRuntime) -> io::Result<ExitCode> {
     }
 }
 
-fn out_of_memory(rt: &impl Eprint) -> io::Result<ExitCode> {
+// Says that memory ran out, for which the status is 6.
+fn out_of_memory(rt: &impl Eprint) -> io::Result<ExitCode>
+    ensures status { IfOk result (λ code. exit_status code ≡ 6) }
+{
     eprintln!(rt; "xdrun: out of memory")?;
     Ok(ExitCode::from(6))
 }
