@@ -29,7 +29,7 @@ pub struct Moment<H, O> {
 
 impl<H, O> Moment<H, O> {
     /// As they stand now.
-    pub(crate) fn of(hub: &H, out: &O) -> Moment<H, O>
+    fn of(hub: &H, out: &O) -> Moment<H, O>
         ensures hub { result.hub.value ≡ hub.now }
         ensures out { result.out.value ≡ out.now }
     {

@@ -140,7 +140,7 @@ impl Chains {
     }
 
     // The number, which stands in no list, goes to the end of one.
-    pub(crate) fn put(&mut self, chain: u32, item: u32)
+    fn put(&mut self, chain: u32, item: u32)
         requires known { chain < chains_of self.old }
         requires below { item < number_count self.old }
         requires free { is_unchained item self.old ≡ true }
@@ -182,7 +182,7 @@ impl Chains {
     }
 
     // The number goes from its list to the end of another.
-    pub(crate) fn shift(&mut self, from: u32, to: u32, item: u32)
+    fn shift(&mut self, from: u32, to: u32, item: u32)
         requires known { (from < chains_of self.old) × (to < chains_of self.old) }
         requires within { among item (chain_at self.old from) ≡ true }
         requires apart { (from == to) ≡ false }

@@ -34,7 +34,7 @@ impl Counts {
 
 impl Reporter {
     /// Counts the report of an entry, where it has one.
-    pub(crate) fn count(&self, counts: &mut Counts, entry: &Entry) -> Result<(), OutOfMemory>
+    fn count(&self, counts: &mut Counts, entry: &Entry) -> Result<(), OutOfMemory>
         ensures { (s : State) → Follows self.now s →
             OnOk result (counts.new ≡ counted s entry.now counts.old) }
     {

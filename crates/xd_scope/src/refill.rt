@@ -16,7 +16,7 @@ use xd_journal::Entry;
 use xd_ledger::{ENOUGH, Ledger, shut};
 
 // The unit at the queue's front goes to the worker.
-pub(crate) fn give_unit(
+fn give_unit(
     alloc: Global,
     worker: u32,
     units: &mut Units,
