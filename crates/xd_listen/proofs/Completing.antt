@@ -25,7 +25,7 @@ use Rattle.xd_listen.specs.Halts.{is_sink_whole, worker_status_of}
 use Rattle.xd_listen.specs.Spoke.{Spoke, voice}
 use Rattle.xd_listen.specs.Took.{TookAll, TookToRefused}
 use Rattle.xd_listen.specs.Programs.{AreLeft}
-use Rattle.xd_listen.specs.Complete.{AreGood, AreStill, GoesWrong, IsCalm, IsWrong}
+use Rattle.xd_listen.specs.Complete.{AreGood, AreStill, GoesWrong, IsCalm, IsWrong, ServedToEnd}
 
 -- ---- more bytes
 
@@ -185,3 +185,7 @@ module _ (held : Option Held) (s0 s1 : Spring) (old new : Scene) where
             readers = c.0;
             runners = c.1;
           }
+
+  -- what the status says follows from how the link was served
+  pub to_end : (status : ℕ) → Served status held s0 s1 old new → ServedToEnd status held s0 s1 old new
+  to_end status v = record { served = v; calm = calm status v; wrong = goes_wrong status v; complete = complete status v }

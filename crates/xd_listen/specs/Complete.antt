@@ -1,16 +1,17 @@
 -- When a link is served to a good end. Spoken of are all the bytes that it has, also those that it did not give.
-use Rattle.std.specs.Prelude.{◌≡◌, ◌⊎◌, ℕ, true, false, List, [], Option, option_map}
+use Rattle.std.specs.Prelude.{◌≡◌, ◌≢◌, ◌⊎◌, ℕ, true, false, List, [], Option, option_map, IfSome}
 use Rattle.xd_edge.specs.Faults.{Rose, StoodStill}
 use Rattle.xd_edge.specs.Files.{Held}
 use Rattle.xd_edge.specs.Sink.{Sunk, with_close}
 use Rattle.xd_factory.specs.declared.faults.SideFault.{SideFault}
 use Rattle.xd_frame.specs.Stream.{messages, rest, Clean, Unfinished, Refused}
+use Rattle.xd_link.specs.Spring.{Spring}
 use Rattle.xd_runner.specs.Programs.{Ran}
 use Rattle.xd_worker.specs.declared.input.WorkerInput.{WorkerInput}
 use Rattle.xd_worker.specs.History.{HeardInput}
 use Rattle.xd_listen.specs.declared.stop.Stop.{Stop}
 use Rattle.xd_listen.specs.declared.stop.Stop.TheVariants as stop
-use Rattle.xd_listen.specs.Ends.{RunsPrograms, Scene, voice_of}
+use Rattle.xd_listen.specs.Ends.{RunsPrograms, Scene, Served, voice_of}
 use Rattle.xd_listen.specs.Inputs.{has_link_end, has_terminate, messages_in}
 use Rattle.xd_listen.specs.Spoke.{Spoke, voice}
 use Rattle.xd_listen.specs.Took.{TookToRefused}
@@ -63,3 +64,13 @@ pub record IsCalm (before now : ℕ) (old new : Scene) : Type 0 where
   pub sink : new.sink_faults ≡ old.sink_faults
   pub readers : new.reader_refusals ≡ old.reader_refusals
   pub runners : new.runner_refusals ≡ old.runner_refusals
+
+-- A link was served to its end, with this exit status. Status 0 stands only where no count of the link or of a crew rose,
+-- and another one only where something is wrong. Where the source tells its bytes, nothing is wrong with all of them and
+-- no count rises, the status is 0.
+-- Example: where standard input ends inside a message, the status is 3.
+pub record ServedToEnd (status : ℕ) (held : Option Held) (s0 s1 : Spring) (old new : Scene) : Type 0 where
+  pub served : Served status held s0 s1 old new
+  pub calm : status ≡ 0 → IsCalm s0.faults s1.faults old new
+  pub wrong : status ≢ 0 → IfSome s0.supply (λ s. GoesWrong held s.left s0.faults s1.faults old new)
+  pub complete : IfSome s0.supply (λ s. AreGood held s.left old new → StoodStill s0.faults s1.faults → AreStill old new → status ≡ 0)

@@ -1,12 +1,11 @@
 // A link that is served to its end.
-ghost use Rattle.std.specs.Prelude.{◌≡◌, ◌≢◌, ℕ, false, not, [], ◌∷◌, Option, Some, None, IfOk, IfSome};
-ghost use Rattle.xd_edge.specs.Faults.{StoodStill};
+ghost use Rattle.std.specs.Prelude.{◌≡◌, ℕ, false, not, [], ◌∷◌, Option, Some, None, IfOk};
 ghost use Rattle.xd_edge.specs.Files.{Held};
 ghost use Rattle.xd_link.specs.Spring.{spring};
 ghost use Rattle.xd_post.specs.Mails.{mails};
 ghost use Rattle.xd_post.specs.Post.{put, ring_of_sender};
-ghost use Rattle.xd_listen.specs.Complete.{AreGood, AreStill, GoesWrong, IsCalm};
-ghost use Rattle.xd_listen.specs.Ends.{Served, scene};
+ghost use Rattle.xd_listen.specs.Complete.{ServedToEnd};
+ghost use Rattle.xd_listen.specs.Ends.{scene};
 ghost use Rattle.xd_listen.specs.Seen.{seen};
 ghost use Rattle.xd_listen.specs.Serves.{ServesSoFar, beside, nothing, setting};
 ghost use Rattle.xd_listen.specs.Spoke.{Spoke, voice};
@@ -115,7 +114,7 @@ pub fn serve<
     runner: &mut D,
     clock: &mut T,
 ) -> Result<ServeEnd<S, N, K>, OutOfMemory>
-    ensures served { IfOk result (λ e. Served e.status (F.held files.old)
+    ensures { IfOk result (λ e. ServedToEnd e.status (F.held files.old)
         (spring (S.supply link.source) (S.is_ended link.source) (S.faults link.source))
         (spring (S.supply e.source) (S.is_ended e.source) (S.faults e.source))
         (scene (N.sunk link.sink) (N.faults link.sink) (K.runs children) (K.faults children)
@@ -124,40 +123,6 @@ pub fn serve<
         (scene (N.sunk e.sink) (N.faults e.sink) (K.runs e.children) (K.faults e.children)
         (F.faults files.new) (C.faults crew.new) (D.faults runner.new)
         (ticking (T.moment clock.new) (T.coming clock.new)))) }
-    // Status 0 only where no count of the link or of a crew rose, and another one only where
-    // something is wrong. Where the source tells its bytes, and nothing is wrong with all of them,
-    // and no count rises, the status is 0.
-    ensures calm { IfOk result (λ e. e.status ≡ 0 →
-        IsCalm (S.faults link.source) (S.faults e.source)
-        (scene (N.sunk link.sink) (N.faults link.sink) (K.runs children) (K.faults children)
-        (F.faults files.old) (C.faults crew.old) (D.faults runner.old)
-        (ticking (T.moment clock.old) (T.coming clock.old)))
-        (scene (N.sunk e.sink) (N.faults e.sink) (K.runs e.children) (K.faults e.children)
-        (F.faults files.new) (C.faults crew.new) (D.faults runner.new)
-        (ticking (T.moment clock.new) (T.coming clock.new)))) }
-    ensures wrong { IfOk result (λ e. e.status ≢ 0 → IfSome (S.supply link.source) (λ s.
-        GoesWrong (F.held files.old) s.left (S.faults link.source) (S.faults e.source)
-        (scene (N.sunk link.sink) (N.faults link.sink) (K.runs children) (K.faults children)
-        (F.faults files.old) (C.faults crew.old) (D.faults runner.old)
-        (ticking (T.moment clock.old) (T.coming clock.old)))
-        (scene (N.sunk e.sink) (N.faults e.sink) (K.runs e.children) (K.faults e.children)
-        (F.faults files.new) (C.faults crew.new) (D.faults runner.new)
-        (ticking (T.moment clock.new) (T.coming clock.new))))) }
-    ensures complete { IfOk result (λ e. IfSome (S.supply link.source) (λ s.
-        AreGood (F.held files.old) s.left
-        (scene (N.sunk link.sink) (N.faults link.sink) (K.runs children) (K.faults children)
-        (F.faults files.old) (C.faults crew.old) (D.faults runner.old)
-        (ticking (T.moment clock.old) (T.coming clock.old)))
-        (scene (N.sunk e.sink) (N.faults e.sink) (K.runs e.children) (K.faults e.children)
-        (F.faults files.new) (C.faults crew.new) (D.faults runner.new)
-        (ticking (T.moment clock.new) (T.coming clock.new))) →
-        StoodStill (S.faults link.source) (S.faults e.source) → AreStill
-        (scene (N.sunk link.sink) (N.faults link.sink) (K.runs children) (K.faults children)
-        (F.faults files.old) (C.faults crew.old) (D.faults runner.old)
-        (ticking (T.moment clock.old) (T.coming clock.old)))
-        (scene (N.sunk e.sink) (N.faults e.sink) (K.runs e.children) (K.faults e.children)
-        (F.faults files.new) (C.faults crew.new) (D.faults runner.new)
-        (ticking (T.moment clock.new) (T.coming clock.new))) → e.status ≡ 0)) }
 {
     let Started {
         link: _,

@@ -51,12 +51,10 @@ impl<N: Sink> Speaker<N> {
         ensures writes { IfOk result (λ acts.
             WritesMore self.old.is_broken self.new.is_broken (frames acts.say)
             (N.sunk self.old.sink) (N.sunk self.new.sink)) }
-        ensures silent { OnErr result (N.sunk self.new.sink ≡ N.sunk self.old.sink) }
-        ensures as_before { OnErr result (self.new.is_broken ≡ self.old.is_broken) }
+        ensures silent { OnErr result (self.new ≡ record self.old { core = self.new.core }) }
         ensures count { IfOk result (λ acts.
             CountSince self.old.is_broken self.new.is_broken (N.faults self.old.sink)
             (N.faults self.new.sink)) }
-        ensures still { OnErr result (N.faults self.new.sink ≡ N.faults self.old.sink) }
         ensures later { N.faults self.old.sink ≤ N.faults self.new.sink }
     {
         match self.core.step(input) {

@@ -10,7 +10,7 @@ use Rattle.xd_listen.specs.Serves.{Beside, Setting, beside, setting}
 use Rattle.xd_edge.specs.Clock.{ticking}
 use Rattle.xd_listen.specs.Joined.{Joined, Sources, back}
 use Rattle.xd_listen.proofs.Beginning.{unserved}
-use Rattle.xd_listen.proofs.Completing.{calm, complete, goes_wrong}
+use Rattle.xd_listen.proofs.Completing.{to_end}
 use Rattle.xd_listen.proofs.Finals.{reads_of, ring_is, runs_of, served_at, still_closes, still_goes}
 use Rattle.xd_listen.proofs.serving.serve.Given.{Over}
 use Rattle.xd_listen.proofs.serving.serve.Goals.{After-drop-server-in-Err-5, After-drop-server-in-Err-start-2, Else-server-2}
@@ -31,12 +31,7 @@ returns-then-server g c =
     (c.in_ok-opened.ensures.spoke held (g.F.Files.faults c.args.files.now)) c.unserved.ensures.closes.1 (ap g.K.Children.runs c.unserved.ensures.children) (ap g.K.Children.faults c.unserved.ensures.children) refl refl
     (λ z. let q = sym c.if-server.true ∙ z in cc) c.unserved.result.status s1 c.unserved.ensures.status
     (ap (λ (x : g.row.S.Denot). spring (g.S.Source.supply x) (g.S.Source.is_ended x) (g.S.Source.faults x)) c.unserved.ensures.source) in
-    record {
-      served = v;
-      calm = calm held s0 s1 old new c.unserved.result.status v;
-      wrong = goes_wrong held s0 s1 old new c.unserved.result.status v;
-      complete = complete held s0 s1 old new c.unserved.result.status v;
-    }
+    to_end held s0 s1 old new c.unserved.result.status v
 
 -- the runner's crew refused
 no_runner : (g : Over) (c : After-drop-server-in-Err-5 g) → Served c.unserved-in-Err.result.status (g.F.Files.held c.args.files.now)
@@ -51,11 +46,8 @@ no_runner g c =
     (λ z. inr (c.in-Err.ensures.counted.rose refl)) c.unserved-in-Err.result.status _ c.unserved-in-Err.ensures.status
     (ap (λ (x : g.row.S.Denot). spring (g.S.Source.supply x) (g.S.Source.is_ended x) (g.S.Source.faults x)) c.unserved-in-Err.ensures.source)
 
-pub returns-in-Err-clause-served : goal.returns-in-Err-clause-served
-returns-in-Err-clause-served g c = no_runner g (goal.at.returns-in-Err-clause-served g c).After-drop-server-in-Err-5
-
-pub returns-in-Err-clause-wrong : goal.returns-in-Err-clause-wrong
-returns-in-Err-clause-wrong g c = goes_wrong _ _ _ _ _ _ (no_runner g (goal.at.returns-in-Err-clause-wrong g c).After-drop-server-in-Err-5)
+pub returns-in-Err : goal.returns-in-Err
+returns-in-Err g c = to_end _ _ _ _ _ _ (no_runner g (goal.at.returns-in-Err g c).After-drop-server-in-Err-5)
 
 -- the reader's crew refused
 no_reader : (g : Over) (c : After-drop-server-in-Err-start-2 g) → Served c.unserved-in-Err-start.result.status (g.F.Files.held c.args.files.now)
@@ -73,11 +65,8 @@ no_reader g c =
     (λ z. inl (c.in-Err-start.ensures.counted.rose refl)) c.unserved-in-Err-start.result.status _ c.unserved-in-Err-start.ensures.status
     (ap (λ (x : g.row.S.Denot). spring (g.S.Source.supply x) (g.S.Source.is_ended x) (g.S.Source.faults x)) e)
 
-pub returns-in-Err-start-clause-served : goal.returns-in-Err-start-clause-served
-returns-in-Err-start-clause-served g c = no_reader g (goal.at.returns-in-Err-start-clause-served g c).After-drop-server-in-Err-start-2
-
-pub returns-in-Err-start-clause-wrong : goal.returns-in-Err-start-clause-wrong
-returns-in-Err-start-clause-wrong g c = goes_wrong _ _ _ _ _ _ (no_reader g (goal.at.returns-in-Err-start-clause-wrong g c).After-drop-server-in-Err-start-2)
+pub returns-in-Err-start : goal.returns-in-Err-start
+returns-in-Err-start g c = to_end _ _ _ _ _ _ (no_reader g (goal.at.returns-in-Err-start g c).After-drop-server-in-Err-start-2)
 
 -- ---- the link was served
 
@@ -150,9 +139,4 @@ returns g c =
     (c.join-read.ensures.still ∙ c.in-Ok-start.ensures.counted.still refl) (c.join-ran.ensures.still ∙ c.in-Ok.ensures.counted.still refl)
     (c.finish.ensures.served (stays g e) (following g e) (before g e) (last g e) (g.C.Crew.faults c.args.crew.now) (g.D.Crew.faults c.args.runner.now) (goes g e) refl (joined g e)
     (still_closes g.N.Sink.sunk g.N.Sink.faults c.close-is_closed.result (g.N.Sink.sunk c.listen-heard.new.self.speaker.sink) (g.N.Sink.faults c.listen-heard.new.self.speaker.sink) c.close-is_closed.new.self.speaker c.drain-stop.new.self.speaker c.drain-stop.ensures.speaker c.close-is_closed.ensures.closes)) in
-    record {
-      served = v;
-      calm = calm held s0 s1 old new c.finish.result.status v;
-      wrong = goes_wrong held s0 s1 old new c.finish.result.status v;
-      complete = complete held s0 s1 old new c.finish.result.status v;
-    }
+    to_end held s0 s1 old new c.finish.result.status v

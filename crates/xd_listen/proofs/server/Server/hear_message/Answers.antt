@@ -1,7 +1,8 @@
-use Rattle.std.proofs.Common.{refl, subst, sym}
+use Rattle.std.proofs.Common.{refl, ap, subst, sym}
 use Rattle.xd_listen.specs.Seen.{seen}
 use Rattle.xd_listen.specs.Inputs.{is_terminate_kind}
 use Rattle.xd_listen.specs.declared.server.Door.{Door}
+use Rattle.xd_listen.specs.declared.speaker.Speaker.{Speaker}
 use Rattle.xd_listen.specs.Serves.{ServesSoFar, to_start}
 use Rattle.xd_listen.proofs.Hears.{message_heard, spoken}
 use Rattle.xd_listen.proofs.Settling.{message_ceases, still_ceases}
@@ -16,5 +17,7 @@ returns-in-Ok-clause-heard g c = λ a now s.
 pub returns-in-Err-clause-refused : goal.returns-in-Err-clause-refused
 returns-in-Err-clause-refused g c = λ a now s.
     still_ceases a now (seen g.N.Sink.sunk g.N.Sink.faults c.args.self.now) c.hear.new.self.core c.hear.new.self.is_broken (g.N.Sink.sunk c.hear.new.self.sink) (g.N.Sink.faults c.hear.new.self.sink) c.in-Err.fault
-    c.in-Err.ensures.as_before c.in-Err.ensures.silent c.in-Err.ensures.still
+    (ap (λ (x : Speaker g.row.N.Denot). x.is_broken) c.in-Err.ensures.silent)
+    (ap (λ (x : Speaker g.row.N.Denot). g.N.Sink.sunk x.sink) c.in-Err.ensures.silent)
+    (ap (λ (x : Speaker g.row.N.Denot). g.N.Sink.faults x.sink) c.in-Err.ensures.silent)
     (message_ceases a now (seen g.N.Sink.sunk g.N.Sink.faults c.args.self.now) c.args.message c.in-Err.fault c.requires.is_open c.in-Err.ensures.refused s)
