@@ -43,11 +43,12 @@ use Rattle.xd_system.proofs.Deal.{Deal, asked_of, is_quiet, size_at}
 use Rattle.xd_system.proofs.Echo.{Echo, entry_of, is_ready_news}
 use Rattle.xd_system.proofs.Frames.{quiet-fair, quiet-line}
 use Rattle.xd_system.proofs.Marks.{MarksSo}
-use Rattle.xd_system.proofs.Runs.{Inv, added, deals-at, entries-added, input-own, inv-begun, marks-at, next, said-join, said-own, state-after}
+use Rattle.xd_system.proofs.Runs.{HonestSoFar, added, deals-at, entries-added, input-own, honest-begun, marks-at, next, state-after}
 use Rattle.xd_system.proofs.Silent.{Silent, keeps_silent}
 use Rattle.xd_system.proofs.Sizes.{size-listed}
 use Rattle.xd_system.proofs.Walks.{onward}
 use Rattle.xd_system.proofs.Worker.{SizedBy, call_is, tells_fit}
+use Rattle.xd_system.proofs.Said.{said-join, said-own}
 
 -- the same is held whatever the size, where nothing but a Shutdown was told
 
@@ -114,7 +115,7 @@ took-cases true took told t = inl t
 took-cases false took told t = t
 
 module _ (settings : Settings) (taken : List News) (w : ℕ) (l : LinkNow) (proper : IsProper settings []) (h : IsHonestAt settings taken w l) where
-  module _ (pre : List News) (n : News) (post : List News) (split : taken ≡ pre ++ n ∷ post) (own : (n.worker == w) ≡ true) (inv : Inv w (run_of settings pre)) (active : is_active w (run_of settings pre).state.books ≡ true) where
+  module _ (pre : List News) (n : News) (post : List News) (split : taken ≡ pre ++ n ∷ post) (own : (n.worker == w) ≡ true) (sofar : HonestSoFar w (run_of settings pre)) (active : is_active w (run_of settings pre).state.books ≡ true) where
     abbrev r : SoFar
     r = run_of settings pre
 
@@ -128,7 +129,7 @@ module _ (settings : Settings) (taken : List News) (w : ℕ) (l : LinkNow) (prop
     said = said_by w pre
 
     echo : Echo w r.entries said
-    echo = subst (λ (t : List News). Echo w r.entries (said_by w t)) (run-taken settings pre) (inv.echo active)
+    echo = subst (λ (t : List News). Echo w r.entries (said_by w t)) (run-taken settings pre) (sofar.echo active)
 
     said-all : said_by w taken ≡ said ++ x ∷ said_by w post
     said-all = ap (said_by w) split ∙ said-join w pre (n ∷ post) ∙ ap (λ (z : List What). said ++ z) (said-join w (n ∷ []) post ∙ ap (λ (z : List What). z ++ said_by w post) (said-own w n own))
@@ -223,7 +224,7 @@ module _ (settings : Settings) (taken : List News) (w : ℕ) (l : LinkNow) (prop
       -- in the rota of a shared run
       placed-so : in_rota w r.state.books.table ≡ true → r.state.books.shared ≡ true → ⊥
       placed-so rota shared =
-          let k = inv.sized active (tidy.placed.fits.collected w rota) in
+          let k = sofar.sized active (tidy.placed.fits.collected w rota) in
           let low : slot_of w r.state.books < r.state.books.settings.workers = tidy.members.below w (has-member w (λ m. m.active) r.state.books.members active) in
           let size : size_at w r.state ≡ length k.own = size-listed w r.state k.is.listing shared low ∙ k.is.joined rota in
           let first : collections_in said ≡ k.own ∷ k.rest = ap (λ (t : List News). collections_in (said_by w t)) (sym (run-taken settings pre)) ∙ k.ids in
@@ -294,17 +295,17 @@ module _ (settings : Settings) (taken : List News) (w : ℕ) (l : LinkNow) (prop
 
   -- after all news
 
-  pub inv-next : (pre : List News) (n : News) (post : List News) → taken ≡ pre ++ n ∷ post → Inv w (run_of settings pre) → Inv w (run_of settings (pre ++ n ∷ []))
-  inv-next pre n post split inv =
-      subst (Inv w) (sym (run-more settings pre n)) (next settings (run_of settings pre) n (sound-run settings pre proper) w inv (λ own. h.begun pre n post split own) (λ own active. fine pre n post split own inv active))
+  pub honest-next : (pre : List News) (n : News) (post : List News) → taken ≡ pre ++ n ∷ post → HonestSoFar w (run_of settings pre) → HonestSoFar w (run_of settings (pre ++ n ∷ []))
+  honest-next pre n post split sofar =
+      subst (HonestSoFar w) (sym (run-more settings pre n)) (next settings (run_of settings pre) n (sound-run settings pre proper) w sofar (λ own. h.begun pre n post split own) (λ own active. fine pre n post split own sofar active))
 
-  inv-all : (post pre : List News) → taken ≡ pre ++ post → Inv w (run_of settings pre) → Inv w (run_of settings taken)
-  inv-all [] pre split inv = subst (λ (t : List News). Inv w (run_of settings t)) (sym (split ∙ append-nil pre)) inv
-  inv-all (n ∷ post) pre split inv = inv-all post (pre ++ n ∷ []) (split ∙ sym (append_assoc pre (n ∷ []) post)) (inv-next pre n post split inv)
+  inv-all : (post pre : List News) → taken ≡ pre ++ post → HonestSoFar w (run_of settings pre) → HonestSoFar w (run_of settings taken)
+  inv-all [] pre split sofar = subst (λ (t : List News). HonestSoFar w (run_of settings t)) (sym (split ∙ append-nil pre)) sofar
+  inv-all (n ∷ post) pre split sofar = inv-all post (pre ++ n ∷ []) (split ∙ sym (append_assoc pre (n ∷ []) post)) (honest-next pre n post split sofar)
 
   -- what holds of an honest worker at each moment
-  pub inv-honest : Inv w (run_of settings taken)
-  inv-honest = inv-all taken [] refl (inv-begun settings w (sound-run settings [] proper))
+  pub inv-honest : HonestSoFar w (run_of settings taken)
+  inv-honest = inv-all taken [] refl (honest-begun settings w (sound-run settings [] proper))
 
 pub never_accused : NeverAccused
 never_accused settings taken w l proper h = (inv-honest settings taken w l proper h).unaccused

@@ -10,7 +10,8 @@ use Rattle.xd_ledger.specs.Workers.{has_member}
 use Rattle.xd_session.specs.History.{Run as SoFar, after_news, begun_run, run_of, said_by}
 use Rattle.xd_session.proofs.Steps.{sound-run}
 use Rattle.xd_system.specs.Moment.{AfterStart}
-use Rattle.xd_system.proofs.Runs.{member-fold, said-join, said-own}
+use Rattle.xd_system.proofs.Runs.{member-fold}
+use Rattle.xd_system.proofs.Said.{said-join, said-own}
 
 -- a place in two lists is in the second, or in the first
 split-both : (before : List News) (n : News) (after pre post : List News) → before ++ n ∷ after ≡ pre ++ post

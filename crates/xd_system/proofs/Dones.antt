@@ -24,7 +24,9 @@ use Rattle.xd_laws.proofs.Logic.{differ, split-and}
 use Rattle.xd_system.specs.Own.{outcome_of_news, outcomes_in, ends_in}
 use Rattle.xd_system.specs.Tells.{comes_in_run, is_of_run, news_of_asks, orders_of, tells, outcome_at_end, outcomes}
 use Rattle.xd_system.proofs.Told.{asks-append}
-use Rattle.xd_system.proofs.Worker.{CallIs, Grows, IsDone, awaiting_turn, begun, grows-all, grows-settled, grows-told, waits_with}
+use Rattle.xd_system.proofs.Worker.{CallIs, IsDone, awaiting_turn, waits_with}
+use Rattle.xd_system.proofs.Grows.{Grows, grows-settled, grows-told, grows-all}
+use Rattle.xd_system.proofs.FirstNews.{begun}
 
 abbrev dones_of : List Ask → List (ℕ × Outcome)
 dones_of asks = outcomes_in (news_of_asks asks)

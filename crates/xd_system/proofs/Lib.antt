@@ -9,6 +9,9 @@ pub mod Puts
 pub mod Settles
 pub mod Steals
 pub mod Ends
+pub mod Grows
+pub mod Parts
+pub mod FirstNews
 pub mod Worker
 pub mod Completes
 pub mod Frames
@@ -27,6 +30,8 @@ pub mod Marks
 pub mod Silent
 pub mod Sizes
 pub mod Echo
+pub mod Started
+pub mod Said
 pub mod Runs
 pub mod Accused
 pub mod Placed
@@ -38,6 +43,7 @@ pub mod Wrong
 pub mod Acts
 pub mod Results
 pub mod Dones
+pub mod Finishes
 pub mod Once
 pub mod Items
 pub mod Suites

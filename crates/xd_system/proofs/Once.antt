@@ -39,7 +39,7 @@ use Rattle.xd_system.specs.Fits.{is_collected}
 use Rattle.xd_system.specs.Moment.{IsFirstPart, IsCutShort, IsHonestAt, LinkNow, told_so_far}
 use Rattle.xd_system.specs.Own.{outcome_in, outcome_of_news, outcomes_by, outcomes_in, order_told, told_to}
 use Rattle.xd_system.specs.Tells.{news_of_asks, orders_of, tells, outcomes}
-use Rattle.xd_system.proofs.Accused.{at-last, entries-fold, inv-next, took-cases}
+use Rattle.xd_system.proofs.Accused.{at-last, entries-fold, honest-next, took-cases}
 use Rattle.xd_system.proofs.Acts.{Acts, acts-none, is_end_of, is_refusal, keeps_acts}
 use Rattle.xd_system.proofs.Call.{is_last_told}
 use Rattle.xd_system.proofs.Deal.{size_at}
@@ -47,105 +47,13 @@ use Rattle.xd_system.proofs.Dones.{ended-dones, started-ended, told-dones}
 use Rattle.xd_system.proofs.Echo.{Echo, entry_of, meaning-elim}
 use Rattle.xd_system.proofs.Placed.{Called, deal-now, echo-now, joined-call, marks-now, quiet-call}
 use Rattle.xd_system.proofs.Results.{Reported, keeps_reported, reported-none, results}
-use Rattle.xd_system.proofs.Runs.{Inv, added, entries-added, input-own, inv-begun, said-join, said-own, state-after}
+use Rattle.xd_system.proofs.Runs.{HonestSoFar, added, entries-added, input-own, honest-begun, state-after}
 use Rattle.xd_system.proofs.Silent.{Silent, keeps_silent}
 use Rattle.xd_system.proofs.Walks.{at-run, onward}
 use Rattle.xd_system.proofs.Worker.{CallIs, IsDone}
-
--- entries that end nobody
-
-outputs-end : (w : ℕ) (s : State) (es : List Entry) → all_orderly s es ≡ true → list_any (is_end_of w) es ≡ false
-outputs-end w s [] h = refl
-outputs-end w s (e ∷ es) h =
-    let p = split-and (is_orderly s e) (all_orderly (after_effect s e) es) h in
-    ap (λ (b : Bool). b || list_any (is_end_of w) es) (one e p.0) ∙ outputs-end w (after_effect s e) es p.1
-  where
-    one : (f : Entry) → is_orderly s f ≡ true → is_end_of w f ≡ false
-    one (Start v slot) q = refl
-    one (Run v ns) q = refl
-    one (RunAll v) q = refl
-    one (Steal v ns) q = refl
-    one (Shutdown v) q = refl
-    one (Kill v) q = refl
-    one (Over how) q = refl
-    one (Ready v) q = absurd (differ q)
-    one (Collected v g) q = absurd (differ q)
-    one (Done v n o ms b) q = absurd (differ q)
-    one (Back v ns) q = absurd (differ q)
-    one (Finished v) q = absurd (differ q)
-    one (Refused v text) q = absurd (differ q)
-    one (Down v c b) q = absurd (differ q)
-    one (NotStarted v) q = absurd (differ q)
-
-other-end : (w v : ℕ) (log : Option Log) (spent : ℕ) (s : State) (x : What) → (v == w) ≡ false → list_any (is_end_of w) (entry_of (meaning_of v log spent s x)) ≡ false
-other-end w v log spent s x h = meaning-elim v log spent s (λ o. list_any (is_end_of w) (entry_of o) ≡ false) refl (λ c b. rw h refl) refl (λ g. refl) (λ n o ms b. refl) (λ ns. refl) (rw h refl) (λ text. rw h refl) (rw h refl) x
-
-end-entry : (w : ℕ) (e : Entry) → is_end_of w e ≡ true → is_death e ≡ false → is_refusal e ≡ false → e ≡ Finished w
-end-entry w (Finished v) h d r = (let same : v ≡ w = grind (arith, nat_tests, h) in ap Finished same)
-end-entry w (Refused v text) h d r = absurd (differ (sym r))
-end-entry w (Down v c b) h d r = absurd (differ (sym d))
-end-entry w (NotStarted v) h d r = absurd (differ (sym d))
-end-entry w e h d r = absurd (differ h)
-
--- what means that the worker finished says so
-
-module _ (w : ℕ) (log : Option Log) (spent : ℕ) (s : State) where
-  abbrev Ends : Option Entry → Type 0
-  Ends o = o ≡ Some (Finished w)
-
-  or-not : (e : Entry) → (e ≡ Finished w → ⊥) → Ends (or_breach w log spent s e) → ⊥
-  or-not e h = in_both (λ o. Ends o → ⊥) (may_follow s e) (Some e) (Some (breach w log spent s)) (λ k z. h (let q : e ≡ Finished w = cc in q)) (λ k z. cc)
-
-  silent-not : (b : Bool) → Ends (if b then None else Some (breach w log spent s)) → ⊥
-  silent-not true z = cc
-  silent-not false z = cc
-
-  says-finished : (x : What) → Ends (meaning_of w log spent s x) → x ≡ what.Finished
-  says-finished what.Ready z = absurd (or-not (Ready w) (λ q. cc) z)
-  says-finished (what.Collected own) z = absurd (go (listed w s.books) z)
-    where
-      go : (o : Option Listed) → Ends (or_breach w log spent s (elim o as (λ _. Entry) [ None ↦ Collected w (ids.List own) | Some l ↦ (if is_none (differ_at l.ids own) then Collected w ids.Same else Collected w (ids.List own)) ])) → ⊥
-      go None = or-not (Collected w (ids.List own)) (λ q. cc)
-      go (Some l) = same (is_none (differ_at l.ids own))
-        where
-          same : (q : Bool) → Ends (or_breach w log spent s (if q then Collected w ids.Same else Collected w (ids.List own))) → ⊥
-          same true = or-not (Collected w ids.Same) (λ q. cc)
-          same false = or-not (Collected w (ids.List own)) (λ q. cc)
-  says-finished (what.LogStart n number) z = absurd (silent-not (may_start_log w n number log s) z)
-  says-finished (what.Piece number bytes) z = absurd (silent-not (is_open_log number log) z)
-  says-finished (what.LogClosed number) z = absurd (silent-not (is_open_log number log) z)
-  says-finished (what.Done n o ms) z = absurd (in_both (λ q. Ends q → ⊥) (names_head w n s && is_of n log && not (any_open log)) (Some (Done w n o ms (output_of w o log spent s))) (Some (breach w log spent s)) (λ k q. cc) (λ k q. cc) z)
-  says-finished (what.Back ns) z = absurd (or-not (Back w ns) (λ q. cc) z)
-  says-finished what.Finished z = refl
-  says-finished (what.Closed None) z = absurd cc
-  says-finished (what.Closed (Some text)) z = absurd (or-not (Refused w text) (λ q. cc) z)
-  says-finished what.Stray z = absurd cc
-  says-finished (what.Gone cause) z = absurd cc
-  says-finished what.NotStarted z = absurd (or-not (NotStarted w) (λ q. cc) z)
-
--- in a part of a list that has none there is none
-part-none : (f : Entry → Bool) (xs : List Entry) (e : Entry) (ys : List Entry) → list_any f (xs ++ e ∷ ys) ≡ false → f e ≡ false
-part-none f [] e ys h = first (f e) (list_any f ys) h
-  where
-    first : (a b : Bool) → (a || b) ≡ false → a ≡ false
-    first true b k = absurd (differ (sym k))
-    first false b k = refl
-part-none f (x ∷ xs) e ys h = part-none f xs e ys (second (f x) (list_any f (xs ++ e ∷ ys)) h)
-  where
-    second : (a b : Bool) → (a || b) ≡ false → b ≡ false
-    second true b k = absurd (differ (sym k))
-    second false b k = k
-
-dropped-front : {A : Type 0} (xs ys : List A) → drop (length xs) (xs ++ ys) ≡ ys
-dropped-front [] ys = refl
-dropped-front (x ∷ xs) ys = dropped-front xs ys
-
-any-last : (xs ys : List What) (x : What) → is_last_told x ≡ true → list_any is_last_told (xs ++ x ∷ ys) ≡ true
-any-last xs ys x h = list_any-append is_last_told xs (x ∷ ys) ∙ ap (λ (b : Bool). list_any is_last_told xs || (b || list_any is_last_told ys)) h ∙ all (list_any is_last_told xs)
-  where
-    all : (b : Bool) → (b || true) ≡ true
-    all true = refl
-    all false = refl
+use Rattle.xd_system.proofs.Said.{said-join, said-own}
+use Rattle.std.proofs.Math.Seq.{drop-append_seam}
+use Rattle.xd_system.proofs.Finishes.{says-finished, outputs-end, other-end, end-entry, part-none, any-last}
 
 -- where the worker finished
 record Split (settings : Settings) (taken : List News) (w : ℕ) : Type 0 where
@@ -154,7 +62,7 @@ record Split (settings : Settings) (taken : List News) (w : ℕ) : Type 0 where
   post : List News
   split : taken ≡ pre ++ news ∷ post
   own : (news.worker == w) ≡ true
-  inv : Inv w (run_of settings pre)
+  sofar : HonestSoFar w (run_of settings pre)
   active : is_active w (run_of settings pre).state.books ≡ true
   input : input_of (run_of settings pre) news ≡ Some (Finished w)
 
@@ -174,10 +82,10 @@ module _ (settings : Settings) (taken : List News) (w : ℕ) (l : LinkNow) (prop
       (f.0, ap (λ (q : SoFar). q.entries) is ∙ f.1 ∙ ap (λ (es : List Entry). es ++ f.0) (entries-added r (input_of r n)) ∙ append_assoc r.entries (added r (input_of r n)) f.0)
 
   -- where it is active no more, it finished with this
-  finishes : (pre : List News) (n : News) (post : List News) → taken ≡ pre ++ n ∷ post → Inv w (run_of settings pre)
+  finishes : (pre : List News) (n : News) (post : List News) → taken ≡ pre ++ n ∷ post → HonestSoFar w (run_of settings pre)
       → ((is_active w (run_of settings pre).state.books ≡ true) ⊎ (has_member w (λ m. true) (run_of settings pre).state.books ≡ false))
       → has_member w (λ m. true) (run_of settings (pre ++ n ∷ [])).state.books ≡ true → is_active w (run_of settings (pre ++ n ∷ [])).state.books ≡ false → Split settings taken w
-  finishes pre n post split inv before m2 a2 = go (input_of r n) refl (cases_of (n.worker == w))
+  finishes pre n post split sofar before m2 a2 = go (input_of r n) refl (cases_of (n.worker == w))
     where
       r : SoFar
       r = run_of settings pre
@@ -239,23 +147,23 @@ module _ (settings : Settings) (taken : List News) (w : ℕ) (l : LinkNow) (prop
             | inl a ↦ a
             | inr m ↦ absurd (differ (sym m ∙ h.begun pre n post split own))
           ] in
-          record { pre = pre; news = n; post = post; split = split; own = own; inv = inv; active = active; input = q ∙ ap Some is }
+          record { pre = pre; news = n; post = post; split = split; own = own; sofar = sofar; active = active; input = q ∙ ap Some is }
 
-  find : (post pre : List News) → taken ≡ pre ++ post → Inv w (run_of settings pre) → ((is_active w (run_of settings pre).state.books ≡ true) ⊎ (has_member w (λ m. true) (run_of settings pre).state.books ≡ false)) → Split settings taken w
-  find [] pre e inv before =
+  find : (post pre : List News) → taken ≡ pre ++ post → HonestSoFar w (run_of settings pre) → ((is_active w (run_of settings pre).state.books ≡ true) ⊎ (has_member w (λ m. true) (run_of settings pre).state.books ≡ false)) → Split settings taken w
+  find [] pre e sofar before =
       let same : taken ≡ pre = e ∙ append-nil pre in
       elim before [
         | inl a ↦ absurd (differ (sym (subst (λ (t : List News). is_active w (run_of settings t).state.books ≡ false) same inactive) ∙ a))
         | inr m ↦ absurd (differ (sym m ∙ subst (λ (t : List News). has_member w (λ m. true) (run_of settings t).state.books ≡ true) same member))
       ]
-  find (n ∷ post) pre e inv before =
-      let next = inv-next settings taken w l proper h pre n post e inv in
+  find (n ∷ post) pre e sofar before =
+      let next = honest-next settings taken w l proper h pre n post e sofar in
       let e2 : taken ≡ (pre ++ n ∷ []) ++ post = e ∙ sym (append_assoc pre (n ∷ []) post) in
       elim (cases_of (is_active w (run_of settings (pre ++ n ∷ [])).state.books)) [
         | inl a ↦ find post (pre ++ n ∷ []) e2 next (inl a)
         | inr a ↦ (elim (cases_of (has_member w (λ m. true) (run_of settings (pre ++ n ∷ [])).state.books)) [
           | inr m ↦ find post (pre ++ n ∷ []) e2 next (inr m)
-          | inl m ↦ finishes pre n post e inv before m a
+          | inl m ↦ finishes pre n post e sofar before m a
         ])
       ]
 
@@ -264,7 +172,7 @@ module _ (settings : Settings) (taken : List News) (w : ℕ) (l : LinkNow) (prop
   starts-end a (suc n) = starts-end (a + 1) n
 
   the-split : Split settings taken w
-  the-split = find taken [] refl (inv-begun settings w (sound-run settings [] proper)) (elim (cases_of (has_member w (λ m. true) (run_of settings []).state.books)) [
+  the-split = find taken [] refl (honest-begun settings w (sound-run settings [] proper)) (elim (cases_of (has_member w (λ m. true) (run_of settings []).state.books)) [
     | inr m ↦ inr m
     | inl m ↦ inl ((acts-at []).acts m ∙ ap not (starts-end 0 settings.workers))
   ])

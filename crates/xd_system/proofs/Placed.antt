@@ -47,15 +47,13 @@ use Rattle.xd_system.proofs.Keeping.{deals-none, keeps_deals}
 use Rattle.xd_system.proofs.Lines.{dealt-further, drop-mapped, marks-end, steals-append, without-none}
 use Rattle.xd_system.proofs.Lists.{count-taken}
 use Rattle.xd_system.proofs.Marks.{MarksSo, keeps_marks, marks-none}
-use Rattle.xd_system.proofs.Runs.{Inv}
+use Rattle.xd_system.proofs.Runs.{HonestSoFar}
 use Rattle.xd_system.proofs.Sizes.{size-listed}
 use Rattle.xd_system.proofs.Walks.{at-run}
-use Rattle.xd_system.proofs.Worker.{CallIs, IsAwaiting, SizedBy, begins-then, call_is, orders-part, run-part, tells-part, tells_fit}
+use Rattle.xd_system.proofs.Worker.{CallIs, IsAwaiting, SizedBy, call_is, tells_fit}
 use Rattle.xd_system.proofs.Named.{named-none, named-without}
-
-dropped-front : {A : Type 0} (xs ys : List A) → drop (length xs) (xs ++ ys) ≡ ys
-dropped-front [] ys = refl
-dropped-front (x ∷ xs) ys = dropped-front xs ys
+use Rattle.xd_system.proofs.Parts.{tells-part, orders-part, run-part, begins-then}
+use Rattle.std.proofs.Math.Seq.{drop-append_seam}
 
 tests-mapped : (ns : List ℕ) (shut : Bool) → tests_in_line (map Test ns ++ (if shut then Mark ∷ [] else [])) ≡ ns
 tests-mapped [] true = refl
@@ -129,11 +127,11 @@ module _ (settings : Settings) (taken : List News) (w : ℕ) (l : LinkNow) (prop
   sound : IsProperRun settings (run_of settings taken)
   sound = sound-run settings taken proper
 
-  inv : Inv w (run_of settings taken)
-  inv = inv-honest settings taken w l proper h
+  sofar : HonestSoFar w (run_of settings taken)
+  sofar = inv-honest settings taken w l proper h
 
   pub echo-now : Echo w r.entries said
-  echo-now = subst (λ (t : List News). Echo w r.entries (said_by w t)) (run-taken settings taken) (inv.echo active)
+  echo-now = subst (λ (t : List News). Echo w r.entries (said_by w t)) (run-taken settings taken) (sofar.echo active)
 
   pub deal-now : Deal w r.state r.entries
   deal-now = (at-run settings r (Deals w) (keeps_deals settings w) sound (deals-none settings w)).active active
@@ -188,7 +186,7 @@ module _ (settings : Settings) (taken : List News) (w : ℕ) (l : LinkNow) (prop
     -- in the rota of a shared run its suite has the size that the controller has of it
     pub joined-call : in_rota w r.state.books.table ≡ true → r.state.books.shared ≡ true → Called (size_at w r.state)
     joined-call rota shared =
-        let k = inv.sized active (tidy.placed.fits.collected w rota) in
+        let k = sofar.sized active (tidy.placed.fits.collected w rota) in
         let low : slot_of w r.state.books < r.state.books.settings.workers = tidy.members.below w (has-member w (λ m. m.active) r.state.books.members active) in
         let size : size_at w r.state ≡ length k.own = size-listed w r.state k.is.listing shared low ∙ k.is.joined rota in
         let first : collections_in said ≡ k.own ∷ k.rest = ap (λ (t : List News). collections_in (said_by w t)) (sym (run-taken settings taken)) ∙ k.ids in
@@ -294,7 +292,7 @@ module _ (settings : Settings) (taken : List News) (w : ℕ) (l : LinkNow) (prop
         let front : without taken_back line ≡ ended ++ without taken_back (drop (length ended) line) =
         ap (without taken_back) (sym (take-append-drop (length ended) line) ∙ ap (λ (z : List ℕ). z ++ drop (length ended) line) deal-now.ended_first)
         ∙ without-append taken_back ended (drop (length ended) line) ∙ ap (λ (z : List ℕ). z ++ without taken_back (drop (length ended) line)) kept in
-        sym (dropped-front ended (without taken_back (drop (length ended) line))) ∙ ap (drop (length ended)) (sym front ∙ there ∙ split) ∙ dropped-front ended rest
+        sym (drop-append_seam ended (without taken_back (drop (length ended) line))) ∙ ap (drop (length ended)) (sym front ∙ there ∙ split) ∙ drop-append_seam ended rest
         ∙ ap (λ (z : List ℕ). E ++ (z ++ all_given size G)) (sym k.line.tests) ∙ ap (λ (z : List ℕ). E ++ (tests_in_line (left (call_after l.given)) ++ z)) (sym k.given)
       where
         in-front : (x : ℕ) (xs ys : List ℕ) → among x xs ≡ true → among x (xs ++ ys) ≡ true
@@ -409,10 +407,10 @@ module _ (settings : Settings) (taken : List News) (w : ℕ) (l : LinkNow) (prop
   told-split whole = subst (λ (b : Bool). TookOf b said (told_so_far l)) whole h.news
 
   pub news-left : (b : IsFirstPart said (told_so_far l)) → news_on_way taken w l ≡ b.0
-  news-left b = ap (drop (length said)) b.1 ∙ dropped-front said b.0
+  news-left b = ap (drop (length said)) b.1 ∙ drop-append_seam said b.0
 
   pub orders-left : orders_on_way settings taken w l ≡ h.orders.0
-  orders-left = ap (drop (length (orders_of l.given))) h.orders.1 ∙ dropped-front (orders_of l.given) h.orders.0
+  orders-left = ap (drop (length (orders_of l.given))) h.orders.1 ∙ drop-append_seam (orders_of l.given) h.orders.0
 
   all-places : l.whole ≡ true → without (items_given_back settings taken w l) (held w r.state.books.table) ≡ items_of_link settings taken w l
   all-places whole =

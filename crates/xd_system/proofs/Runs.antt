@@ -43,71 +43,8 @@ use Rattle.xd_system.proofs.Marks.{MarksSo, keeps_marks, marks-none}
 use Rattle.xd_system.proofs.Silent.{Silent, keeps_silent}
 use Rattle.xd_system.proofs.Sizes.{Sized, collects, keeps_sized}
 use Rattle.xd_system.proofs.Walks.{at-run, onward, state-run}
-
--- whoever was started stays so
-
-abbrev WasStarted : ℕ → State → List Entry → Type 0
-WasStarted w s es = has_member w (λ m. true) s.books ≡ true
-
-keep-member : (w : ℕ) (change : Member → Member) (ms : List Member) → ((m : Member) → (change m).worker ≡ m.worker) → has w (λ m. true) ms ≡ true → has w (λ m. true) (map change ms) ≡ true
-keep-member w change ms k h = has-same w (λ m. true) change ms k (λ m. refl) ∙ h
-
-member-said : (w : ℕ) (s : State) (e : Entry) → may_follow s e ≡ true → WasStarted w s [] → WasStarted w (after_effect s e) []
-member-said w s (Ready v) m h = keep-member w (made_ready v) s.books.members (λ m. refl) h
-member-said w s (Collected v g) m h =
-    let k = keep-member w (made_collected v) s.books.members (λ m. refl) h in
-    collecting-keeps (λ (x : State). has_member w (λ m. true) x.books ≡ true) (in_books (λ b. marked (made_collected v) (with_list v g b)) s) v (unequal v g (listed v s.books)) k k k (λ n. k)
-member-said w s (Done v n o ms b) m h = h
-member-said w s (Back v ns) m h = h
-member-said w s (Finished v) m h = keep-member w (made_gone v) s.books.members (λ m. refl) h
-member-said w s (Refused v text) m h = keep-member w (made_gone v) s.books.members (λ m. refl) h
-member-said w s (Down v c b) m h = keep-member w (made_gone v) s.books.members (λ m. refl) h
-member-said w s (NotStarted v) m h = keep-member w (made_gone v) s.books.members (λ m. refl) h
-member-said w s (Start v slot) m h = absurd (differ m)
-member-said w s (Run v ns) m h = absurd (differ m)
-member-said w s (RunAll v) m h = absurd (differ m)
-member-said w s (Steal v ns) m h = absurd (differ m)
-member-said w s (Shutdown v) m h = absurd (differ m)
-member-said w s (Kill v) m h = absurd (differ m)
-member-said w s (Over how) m h = absurd (differ m)
-
-member-told : (w : ℕ) (s : State) (e : Entry) → is_orderly s e ≡ true → WasStarted w s [] → WasStarted w (after_effect s e) []
-member-told w s (Start v slot) m h = has-more w (λ m. true) s.books.members (started v slot) ∙ ap (λ (b : Bool). b || ((v == w) && true)) h
-member-told w s (Run v ns) m h = h
-member-told w s (RunAll v) m h = h
-member-told w s (Steal v ns) m h = h
-member-told w s (Shutdown v) m h = keep-member w (made_shut v) s.books.members (λ m. refl) h
-member-told w s (Kill v) m h = h
-member-told w s (Over how) m h = h
-member-told w s (Ready v) m h = absurd (differ m)
-member-told w s (Collected v g) m h = absurd (differ m)
-member-told w s (Done v n o ms b) m h = absurd (differ m)
-member-told w s (Back v ns) m h = absurd (differ m)
-member-told w s (Finished v) m h = absurd (differ m)
-member-told w s (Refused v text) m h = absurd (differ m)
-member-told w s (Down v c b) m h = absurd (differ m)
-member-told w s (NotStarted v) m h = absurd (differ m)
-
-keeps_member : (settings : Settings) (w : ℕ) → Keeps settings (WasStarted w)
-keeps_member settings w = record { said = λ s es e t m at k. member-said w s e m k; told = λ s es e p m at k. member-told w s e m k; settled = λ s es k. k }
-
--- what a worker said
-
-pub said-join : (w : ℕ) (xs ys : List News) → said_by w (xs ++ ys) ≡ said_by w xs ++ said_by w ys
-said-join w [] ys = refl
-said-join w (x ∷ xs) ys = go (x.worker == w) (said-join w xs ys)
-  where
-    go : (b : Bool) → said_by w (xs ++ ys) ≡ said_by w xs ++ said_by w ys
-        → map (λ (n : News). n.what) (if b then x ∷ filter (λ (n : News). n.worker == w) (xs ++ ys) else filter (λ (n : News). n.worker == w) (xs ++ ys))
-        ≡ map (λ (n : News). n.what) (if b then x ∷ filter (λ (n : News). n.worker == w) xs else filter (λ (n : News). n.worker == w) xs) ++ said_by w ys
-    go true k = ap (λ (l : List What). x.what ∷ l) k
-    go false k = k
-
-pub said-own : (w : ℕ) (n : News) → (n.worker == w) ≡ true → said_by w (n ∷ []) ≡ n.what ∷ []
-said-own w n h = rw h refl
-
-pub said-other : (w : ℕ) (n : News) → (n.worker == w) ≡ false → said_by w (n ∷ []) ≡ []
-said-other w n h = rw h refl
+use Rattle.xd_system.proofs.Started.{WasStarted, keep-member, keeps_member}
+use Rattle.xd_system.proofs.Said.{said-join, said-own, said-other, none-said, no-dones}
 
 -- the worker's collection has the size that the controller has of it
 pub record SizedAs (w : ℕ) (r : SoFar) : Type 0 where
@@ -116,7 +53,8 @@ pub record SizedAs (w : ℕ) (r : SoFar) : Type 0 where
   pub ids : collections_in (said_by w r.taken) ≡ own ∷ rest
   pub is : Sized w (length own) r.state r.entries
 
-pub record Inv (w : ℕ) (r : SoFar) : Type 0 where
+-- what holds of the worker after these news, as long as none of its own was a breach
+pub record HonestSoFar (w : ℕ) (r : SoFar) : Type 0 where
   pub begun : has_member w (λ m. true) r.state.books ≡ false → said_by w r.taken ≡ []
   pub echo : is_active w r.state.books ≡ true → Echo w r.entries (said_by w r.taken)
   pub sized : is_active w r.state.books ≡ true → has_collected w r.state.books ≡ true → SizedAs w r
@@ -131,43 +69,6 @@ added r (Some e) = e ∷ outputs r.state e
 pub entries-added : (r : SoFar) (o : Option Entry) → entries_with o r.entries r.state ≡ r.entries ++ added r o
 entries-added r None = sym (append-nil r.entries)
 entries-added r (Some e) = refl
-
-none-said : (xs : List What) → list_any is_collected xs ≡ false → collections_in xs ≡ []
-none-said [] h = refl
-none-said (what.Collected i ∷ xs) h = absurd (differ (sym h))
-none-said (what.Ready ∷ xs) h = none-said xs h
-none-said (what.LogStart n m ∷ xs) h = none-said xs h
-none-said (what.Piece n b ∷ xs) h = none-said xs h
-none-said (what.LogClosed n ∷ xs) h = none-said xs h
-none-said (what.Done n o m ∷ xs) h = none-said xs h
-none-said (what.Back n ∷ xs) h = none-said xs h
-none-said (what.Finished ∷ xs) h = none-said xs h
-none-said (what.Closed t ∷ xs) h = none-said xs h
-none-said (what.Stray ∷ xs) h = none-said xs h
-none-said (what.Gone c ∷ xs) h = none-said xs h
-none-said (what.NotStarted ∷ xs) h = none-said xs h
-
-pub no-dones : (w : ℕ) (es : List Entry) → ends_by w es ≡ [] → outcomes_by w es ≡ []
-no-dones w [] h = refl
-no-dones w (Done v n o ms b ∷ es) h = go (v == w) refl (λ k. no-dones w es k)
-  where
-    go : (q : Bool) → (v == w) ≡ q → (ends_by w es ≡ [] → outcomes_by w es ≡ []) → outcomes_by w (Done v n o ms b ∷ es) ≡ []
-    go true e rest = absurd (let z : n ∷ ends_by w es ≡ [] = sym (ap (λ (q : Bool). cons_option (if q then Some n else None) (ends_by w es)) e) ∙ h in cc)
-    go false e rest = ap (λ (q : Bool). cons_option (if q then Some (n, o) else None) (outcomes_by w es)) e ∙ rest (sym (ap (λ (q : Bool). cons_option (if q then Some n else None) (ends_by w es)) e) ∙ h)
-no-dones w (Ready v ∷ es) h = no-dones w es h
-no-dones w (Collected v g ∷ es) h = no-dones w es h
-no-dones w (Back v ns ∷ es) h = no-dones w es h
-no-dones w (Finished v ∷ es) h = no-dones w es h
-no-dones w (Refused v t ∷ es) h = no-dones w es h
-no-dones w (Down v c b ∷ es) h = no-dones w es h
-no-dones w (NotStarted v ∷ es) h = no-dones w es h
-no-dones w (Start v i ∷ es) h = no-dones w es h
-no-dones w (Run v ns ∷ es) h = no-dones w es h
-no-dones w (RunAll v ∷ es) h = no-dones w es h
-no-dones w (Steal v ns ∷ es) h = no-dones w es h
-no-dones w (Shutdown v ∷ es) h = no-dones w es h
-no-dones w (Kill v ∷ es) h = no-dones w es h
-no-dones w (Over how ∷ es) h = no-dones w es h
 
 module _ (settings : Settings) (r : SoFar) (n : News) (sound : IsProperRun settings r) (w : ℕ) where
   abbrev r2 : SoFar
@@ -248,7 +149,7 @@ module _ (settings : Settings) (r : SoFar) (n : News) (sound : IsProperRun setti
       (own-echo w (log_of (said_by w r.taken)) (spent_by r.entries) r.state n.what (ap (λ (o : Option Entry). is_accused w (entry_of o)) (sym is) ∙ fine)))
 
   -- one piece of news more
-  module _ (inv : Inv w r) (started_ : (n.worker == w) ≡ true → has_member w (λ m. true) r.state.books ≡ true)
+  module _ (sofar : HonestSoFar w r) (started_ : (n.worker == w) ≡ true → has_member w (λ m. true) r.state.books ≡ true)
       (fine : (n.worker == w) ≡ true → is_active w r.state.books ≡ true → is_accused w (entry_of (input_of r n)) ≡ false) where
     unstarted-other : has_member w (λ m. true) r.state.books ≡ false → (n.worker == w) ≡ false
     unstarted-other m = elim (cases_of (n.worker == w)) [ inl h ↦ absurd (differ (sym m ∙ started_ h)) | inr h ↦ h ]
@@ -257,7 +158,7 @@ module _ (settings : Settings) (r : SoFar) (n : News) (sound : IsProperRun setti
     was-active m a = elim (cases_of (is_active w r.state.books)) [ inl k ↦ k | inr k ↦ absurd (differ (sym (inactive-then m k) ∙ a)) ]
 
     silent-said : has_member w (λ m. true) r.state.books ≡ false → said_by w r2.taken ≡ []
-    silent-said m = taken-more ∙ ap (λ (l : List What). l ++ said_by w (n ∷ [])) (inv.begun m) ∙ said-other w n (unstarted-other m)
+    silent-said m = taken-more ∙ ap (λ (l : List What). l ++ said_by w (n ∷ [])) (sofar.begun m) ∙ said-other w n (unstarted-other m)
 
     first-echo : has_member w (λ m. true) r.state.books ≡ false → Echo w r2.entries (said_by w r2.taken)
     first-echo m =
@@ -268,7 +169,7 @@ module _ (settings : Settings) (r : SoFar) (n : News) (sound : IsProperRun setti
           ready = sym (absent (λ m. m.ready) m) ∙ marks-at.ready;
           collected = sym (absent (λ m. m.collected) m) ∙ marks-at.collected;
           dones = sym (no-dones w r.entries none.ended);
-          unaccused = inv.unaccused;
+          unaccused = sofar.unaccused;
         } in
         let more : Echo w (r.entries ++ added r (input_of r n)) ([] ++ []) = echo-more w r.entries (added r (input_of r n)) [] [] old (added-other (unstarted-other m)) in
         subst (Echo w r2.entries) (sym (silent-said m)) (subst (λ (es : List Entry). Echo w es []) (sym grown) more)
@@ -276,9 +177,9 @@ module _ (settings : Settings) (r : SoFar) (n : News) (sound : IsProperRun setti
     later-echo : is_active w r.state.books ≡ true → Echo w r2.entries (said_by w r2.taken)
     later-echo a = subst (Echo w r2.entries) (sym taken-more) (subst (λ (es : List Entry). Echo w es (said_by w r.taken ++ said_by w (n ∷ []))) (sym grown) (elim (cases_of (n.worker == w)) [
       | inl h ↦ subst (λ (l : List What). Echo w (r.entries ++ added r (input_of r n)) (said_by w r.taken ++ l)) (sym (said-own w n h))
-          (echo-more w r.entries (added r (input_of r n)) (said_by w r.taken) (n.what ∷ []) (inv.echo a) (own-added h a (fine h a)))
+          (echo-more w r.entries (added r (input_of r n)) (said_by w r.taken) (n.what ∷ []) (sofar.echo a) (own-added h a (fine h a)))
       | inr h ↦ subst (λ (l : List What). Echo w (r.entries ++ added r (input_of r n)) (said_by w r.taken ++ l)) (sym (said-other w n h))
-          (echo-more w r.entries (added r (input_of r n)) (said_by w r.taken) [] (inv.echo a) (added-other h))
+          (echo-more w r.entries (added r (input_of r n)) (said_by w r.taken) [] (sofar.echo a) (added-other h))
     ]))
 
     echo-then : is_active w r2.state.books ≡ true → Echo w r2.entries (said_by w r2.taken)
@@ -297,7 +198,7 @@ module _ (settings : Settings) (r : SoFar) (n : News) (sound : IsProperRun setti
     ]
 
     unaccused-then : is_accused w r2.entries ≡ false
-    unaccused-then = ap (is_accused w) grown ∙ list_any-append (is_breach_of w) r.entries (added r (input_of r n)) ∙ ap (λ (b : Bool). b || is_accused w (added r (input_of r n))) inv.unaccused ∙ added-unaccused
+    unaccused-then = ap (is_accused w) grown ∙ list_any-append (is_breach_of w) r.entries (added r (input_of r n)) ∙ ap (λ (b : Bool). b || is_accused w (added r (input_of r n))) sofar.unaccused ∙ added-unaccused
 
     ids-more : collections_in (said_by w r2.taken) ≡ collections_in (said_by w r.taken) ++ collections_in (said_by w (n ∷ []))
     ids-more = ap collections_in taken-more ∙ filter_map-append collection_of_news (said_by w r.taken) (said_by w (n ∷ []))
@@ -373,7 +274,7 @@ module _ (settings : Settings) (r : SoFar) (n : News) (sound : IsProperRun setti
     sized-then a c = elim (cases_of (has_member w (λ m. true) r.state.books)) [
       | inr m ↦ absurd (differ (sym (ap (list_any is_collected) (silent-said m)) ∙ told))
       | inl m ↦ (let b = was-active m a in elim (cases_of (has_collected w r.state.books)) [
-        | inl k ↦ sized-on (inv.sized b k)
+        | inl k ↦ sized-on (sofar.sized b k)
         | inr k ↦ late b k (cases_of (n.worker == w))
       ])
     ]
@@ -383,7 +284,7 @@ module _ (settings : Settings) (r : SoFar) (n : News) (sound : IsProperRun setti
 
         late : is_active w r.state.books ≡ true → has_collected w r.state.books ≡ false → ((n.worker == w) ≡ true) ⊎ ((n.worker == w) ≡ false) → SizedAs w r2
         late b k own =
-            let before : list_any is_collected (said_by w r.taken) ≡ false = (inv.echo b).collected ∙ sym marks-at.collected ∙ k in
+            let before : list_any is_collected (said_by w r.taken) ≡ false = (sofar.echo b).collected ∙ sym marks-at.collected ∙ k in
             let split : list_any is_collected (said_by w r2.taken) ≡ list_any is_collected (said_by w (n ∷ [])) =
             ap (list_any is_collected) taken-more ∙ list_any-append is_collected (said_by w r.taken) (said_by w (n ∷ [])) ∙ ap (λ (q : Bool). q || list_any is_collected (said_by w (n ∷ []))) before in
             elim own [
@@ -441,7 +342,7 @@ module _ (settings : Settings) (r : SoFar) (n : News) (sound : IsProperRun setti
     unfinished-then a = elim (cases_of (has_member w (λ m. true) r.state.books)) [
       | inr m ↦ ap (list_any is_last_told) (silent-said m)
       | inl m ↦ (let b = was-active m a in
-          ap (list_any is_last_told) taken-more ∙ list_any-append is_last_told (said_by w r.taken) (said_by w (n ∷ [])) ∙ ap (λ (q : Bool). q || list_any is_last_told (said_by w (n ∷ []))) (inv.unfinished b) ∙ last b (cases_of (n.worker == w)))
+          ap (list_any is_last_told) taken-more ∙ list_any-append is_last_told (said_by w r.taken) (said_by w (n ∷ [])) ∙ ap (λ (q : Bool). q || list_any is_last_told (said_by w (n ∷ []))) (sofar.unfinished b) ∙ last b (cases_of (n.worker == w)))
     ]
       where
         last : is_active w r.state.books ≡ true → ((n.worker == w) ≡ true) ⊎ ((n.worker == w) ≡ false) → list_any is_last_told (said_by w (n ∷ [])) ≡ false
@@ -451,7 +352,7 @@ module _ (settings : Settings) (r : SoFar) (n : News) (sound : IsProperRun setti
           | inr k ↦ k
         ])
 
-    pub next : Inv w r2
+    pub next : HonestSoFar w r2
     next = record {
       begun = λ m. silent-said (elim (cases_of (has_member w (λ m. true) r.state.books)) [ inl k ↦ absurd (differ (sym m ∙ member-then k)) | inr k ↦ k ]);
       echo = echo-then;
@@ -466,8 +367,8 @@ starts-echo : (w a n : ℕ) → Echo w (starts_from a n) []
 starts-echo w a zero = echo-none w
 starts-echo w a (suc n) = (let rest = starts-echo w (a + 1) n in record { answers = rest.answers; ended = rest.ended; ready = rest.ready; collected = rest.collected; dones = rest.dones; unaccused = rest.unaccused })
 
-pub inv-begun : (settings : Settings) (w : ℕ) → IsProperRun settings (begun_run settings) → Inv w (begun_run settings)
-inv-begun settings w sound = (let e = starts-echo w 0 settings.workers in record {
+pub honest-begun : (settings : Settings) (w : ℕ) → IsProperRun settings (begun_run settings) → HonestSoFar w (begun_run settings)
+honest-begun settings w sound = (let e = starts-echo w 0 settings.workers in record {
   begun = λ m. refl;
   echo = λ a. e;
   sized = λ a c. absurd (differ (e.collected ∙ sym (at-run settings (begun_run settings) (MarksSo w) (keeps_marks settings w) sound (marks-none settings w)).collected ∙ c));

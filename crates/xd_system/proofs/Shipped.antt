@@ -26,11 +26,12 @@ use Rattle.xd_system.specs.Moment.{AfterStart, WasBegun, IsCutShort, IsFirstPart
 use Rattle.xd_system.specs.Own.{order_told, told_to}
 use Rattle.xd_system.specs.Steps.{MayCome, Ordered, SuiteRead, NoSuite, Printed, Ended, SystemStep, IsCalled, Comes, IsTaken, Cut, IsGone, Unstarted, Reaches, Fresh, Then, ShippedAreHonest, System, fresh_system, heard_end, is_link_over, system_with_link, system_with_news, with_call, link_cut, with_input}
 use Rattle.xd_system.specs.Tells.{comes_in_run, is_of_run, order_in, orders_of, tells}
-use Rattle.xd_system.proofs.Runs.{added, entries-added, member-then, said-join, said-other, said-own}
+use Rattle.xd_system.proofs.Runs.{added, entries-added, member-then}
 use Rattle.xd_system.proofs.Suites.{suite-ids}
 use Rattle.xd_system.proofs.Told.{last-split}
-use Rattle.xd_system.proofs.Worker.{begins-then, orders-part, tells-part}
 use Rattle.std.proofs.lemmas.List.Elements.{filter_map-append}
+use Rattle.xd_system.proofs.Parts.{tells-part, orders-part, begins-then}
+use Rattle.xd_system.proofs.Said.{said-join, said-own, said-other}
 
 -- first parts
 

@@ -40,9 +40,9 @@ use Rattle.xd_system.proofs.Puts.{can_give-line, put, put-mark}
 use Rattle.xd_system.proofs.Settles.{settles}
 use Rattle.xd_system.proofs.Steals.{answers_steal}
 use Rattle.xd_system.proofs.Told.{asks-append, begins-less, fit-more, told-more}
-
-abbrev told_in : List What → CallTurn → List What
-told_in before t = before ++ news_of_asks t.asks
+use Rattle.xd_system.proofs.Grows.{Grows, grows-told, grows-heard, grows-all}
+use Rattle.xd_system.proofs.Parts.{told_in, tells-more}
+use Rattle.xd_system.proofs.FirstNews.{fit-ready, fit-refused, begun, begins-serving}
 
 -- the orders are such that each may take effect where it stands, by these answers
 pub record Allows (size : ℕ) (all : List Order) (answers : List (List ℕ)) : Type 0 where
@@ -92,85 +92,6 @@ hears size orders o before t few (inl k) unshut may =
     subst (λ (p : Phase). IsTurn size (orders ++ o ∷ []) before (item_heard_in p true (Some o) t)) (sym k.serves.phase) (takes size orders before t k unshut few o (may k))
 hears size orders o before t few (inr k) unshut may =
     subst (λ (p : Phase). IsTurn size (orders ++ o ∷ []) before (item_heard_in p true (Some o) t)) (sym k.phase) (inr (over-more size orders o before t unshut k))
-
--- what a turn asks for only grows
-
-abbrev pub Grows : CallTurn → CallTurn → Type 0
-Grows t u = (more : List Ask) × (u.asks ≡ t.asks ++ more) × (outcomes_in (news_of_asks more) ≡ [])
-
-same-asks : (t u : CallTurn) → u.asks ≡ t.asks → Grows t u
-same-asks t u e = ([], e ∙ sym (append-nil t.asks), refl)
-
-grows-then : (t u v : CallTurn) → Grows t u → Grows u v → Grows t v
-grows-then t u v a b = (
-  a.0 ++ b.0,
-  b.1 ∙ ap (λ (l : List Ask). l ++ b.0) a.1 ∙ append_assoc t.asks a.0 b.0,
-  ap outcomes_in (asks-append a.0 b.0) ∙ filter_map-append outcome_of_news (news_of_asks a.0) (news_of_asks b.0) ∙ ap (λ (l : List (ℕ × Outcome)). l ++ outcomes_in (news_of_asks b.0)) a.2 ∙ b.2,
-)
-
-grows-over : (text : Option (List ℕ)) (t : CallTurn) → Grows t (over text t)
-grows-over None t = (End None ∷ [], refl, refl)
-grows-over (Some x) t = (End (Some x) ∷ [], refl, refl)
-
-grows-early : (e : Ending) (t : CallTurn) → Grows t (ended_early e t)
-grows-early e t = go t.call.running
-  where
-    go : (v : Bool) → Grows t (if v then record t { call = record (t.call) { phase = phase.Ending e } } else over (ending_text e) t)
-    go true = same-asks t (record t { call = record (t.call) { phase = phase.Ending e } }) refl
-    go false = grows-over (ending_text e) t
-
-grows-moved : (room : Bool) (l : List LineEntry) (t : CallTurn) → Grows t (moved_on room l t)
-grows-moved room [] t = same-asks t t refl
-grows-moved room (Mark ∷ l) t = (Tell what.Finished ∷ End None ∷ [], append_assoc t.asks (Tell what.Finished ∷ []) (End None ∷ []), refl)
-grows-moved room (Test n ∷ []) t = same-asks t t refl
-grows-moved room (Test n ∷ (p ∷ l)) t = go (room && has_log t.call.ended)
-  where
-    go : (v : Bool) → Grows t (if v then test_started n t else over (Some too_many_channels) t)
-    go true = (Tell (what.LogStart n (number_of_log t.call.ended)) ∷ [], refl, refl)
-    go false = grows-over (Some too_many_channels) t
-
-pub grows-settled : (room : Bool) (t : CallTurn) → Grows t (line_settled room t)
-grows-settled room t = go t.call.running
-  where
-    go : (v : Bool) → Grows t (if v then t else moved_on room (left t.call) t)
-    go true = same-asks t t refl
-    go false = grows-moved room (left t.call) t
-
-grows-given : (room : Bool) (ns : List ℕ) (t : CallTurn) → Grows t (given room ns t)
-grows-given room ns t = go (can_give t.call.size t.call.line ns)
-  where
-    go : (v : Bool) → Grows t (if v then line_settled room (record t { call = record (t.call) { line = t.call.line ++ map Test ns } }) else ended_early BadCommand t)
-    go true = grows-settled room (record t { call = record (t.call) { line = t.call.line ++ map Test ns } })
-    go false = grows-early BadCommand t
-
-grows-stolen : (ns : List ℕ) (t : CallTurn) → Grows t (stolen_if ns t)
-grows-stolen ns t = ask (can_ask t.call.size [] ns)
-  where
-    go : (v : Bool) → Grows t (if v then asking (Tell (what.Back (stolen_tests ns (queue t.call))) ∷ []) (record t { call = record (t.call) { line = front t.call ++ kept ns (queue t.call) } }) else asking (Tell (what.Back []) ∷ []) t)
-    go true = (Tell (what.Back (stolen_tests ns (queue t.call))) ∷ [], refl, refl)
-    go false = (Tell (what.Back []) ∷ [], refl, refl)
-
-    ask : (v : Bool) → Grows t (if v then stolen ns t else ended_early BadCommand t)
-    ask true = go (all_queued (queue t.call) ns)
-    ask false = grows-early BadCommand t
-
-pub grows-told : (room : Bool) (o : Option Order) (t : CallTurn) → Grows t (told room o t)
-grows-told room None t = grows-early BadCommand t
-grows-told room (Some (RunTests ns)) t = grows-given room ns t
-grows-told room (Some RunAll) t = grows-given room (range_with_len 0 t.call.size) t
-grows-told room (Some (Steal ns)) t = grows-stolen ns t
-grows-told room (Some Shutdown) t = grows-settled room (record t { call = record (t.call) { line = t.call.line ++ Mark ∷ [] } })
-
-grows-heard : (p : Phase) (room : Bool) (o : Option Order) (t : CallTurn) → Grows t (item_heard_in p room o t)
-grows-heard Awaiting room o t = same-asks t (record t { call = record (t.call) { waiting = t.call.waiting ++ o ∷ [] } }) refl
-grows-heard Serving room o t = grows-told room o t
-grows-heard (phase.Ending x) room o t = same-asks t t refl
-grows-heard phase.Stopped room o t = same-asks t t refl
-grows-heard Over room o t = same-asks t t refl
-
-pub grows-all : (room : Bool) (os : List (Option Order)) (t : CallTurn) → Grows t (all_heard room os t)
-grows-all room [] t = same-asks t t refl
-grows-all room (o ∷ os) t = grows-then t (item_heard room o t) (all_heard room os (item_heard room o t)) (grows-heard t.call.phase room o t) (grows-all room os (item_heard room o t))
 
 -- the answers so far begin those of a longer turn
 answers-begin : (before : List What) (t u : CallTurn) (all : List (List ℕ)) → Grows t u → IsFirstPart (answers_in (told_in before u)) all → IsFirstPart (answers_in (told_in before t)) all
@@ -267,9 +188,6 @@ CallIs size gs = IsAwaiting gs ⊎ (Serves size gs ⊎ IsDone size gs)
 abbrev pub SizedBy : ℕ → List What → Type 0
 SizedBy size all = (ids : List (List ℕ)) (rest : List (List (List ℕ))) → collections_in all ≡ ids ∷ rest → length ids ≡ size
 
-tells-more : (g : Given) (gs : List Given) → tells (g ∷ gs) ≡ told_in (tells gs) (turn_after gs g)
-tells-more g gs = ap (λ (l : List What). what.Ready ∷ l) (asks-append (all_asks gs) (turn_after gs g).asks)
-
 tells-now : (gs : List Given) → told_in (tells gs) (call_turn_of (call_after gs)) ≡ tells gs
 tells-now gs = append-nil (tells gs)
 
@@ -296,46 +214,6 @@ as-over size g gs k = inr (inr (record {
 as-call : (size : ℕ) (g : Given) (gs : List Given) → size ≤ most_tests → IsTurn size (orders_of (g ∷ gs)) (tells gs) (turn_after gs g) → CallIs size (g ∷ gs)
 as-call size g gs few (inl k) = as-serving size g gs few k
 as-call size g gs few (inr k) = as-over size g gs k
-
--- the first news fit
-
-fit-none : (size : ℕ) (all : List Order) → AllFit size all []
-fit-none size all before x after is = absurd (empty before is)
-  where
-    empty : (bs : List What) → [] ≡ bs ++ x ∷ after → ⊥
-    empty [] e = cc
-    empty (b ∷ bs) e = cc
-
-fit-ready : (size : ℕ) (all : List Order) → AllFit size all (what.Ready ∷ [])
-fit-ready size all = fit-more size all [] what.Ready (fit-none size all) refl
-
-fit-collected : (size : ℕ) (all : List Order) (ids : List (List ℕ)) → are_suite_ids ids ≡ true → AllFit size all (what.Ready ∷ what.Collected ids ∷ [])
-fit-collected size all ids h = fit-more size all (what.Ready ∷ []) (what.Collected ids) (fit-ready size all) (refl, h)
-
-fit-refused : (size : ℕ) (all : List Order) (text : List ℕ) → AllFit size all (what.Ready ∷ what.Closed (Some text) ∷ [])
-fit-refused size all text = fit-more size all (what.Ready ∷ []) (what.Closed (Some text)) (fit-ready size all) refl
-
--- the call begins to serve
-abbrev pub begun : FunctionCall → List (List ℕ) → CallTurn
-begun c ids = record { call = serving_suite (length ids) c; asks = [] ++ Tell (what.Collected ids) ∷ []; run = None }
-
-begins-serving : (size : ℕ) (c : FunctionCall) (ids : List (List ℕ)) → length ids ≡ size → are_suite_ids ids ≡ true → IsServingTurn size [] (what.Ready ∷ []) (begun c ids)
-begins-serving size c ids e h = record {
-  serves = record {
-    phase = refl;
-    size_is = e;
-    line_is = refl;
-    answered = refl;
-    ended_is = refl;
-    ended_first = refl;
-    distinct = refl;
-    within = refl;
-    log_is = record { opened = λ r. absurd cc; closed = λ r. (refl, omega arith); earlier = λ r n k. absurd (differ k) };
-    collected = refl;
-    unfinished = refl;
-  };
-  fit = λ all b m. fit-collected size all ids h;
-}
 
 map-last : (R : List Order) (o : Order) → map Some (R ++ o ∷ []) ≡ map Some R ++ Some o ∷ []
 map-last [] o = refl
@@ -480,22 +358,3 @@ module _ (size : ℕ) (all : List Order) (answers : List (List ℕ)) (w : Allows
   tells_fit gs (inl k) more b m = subst (AllFit size more) (sym (ap (λ (l : List Ask). what.Ready ∷ news_of_asks l) k.none)) (fit-ready size more)
   tells_fit gs (inr (inl k)) more b m = k.fit more b m
   tells_fit gs (inr (inr k)) more b m = k.fit more b m
-
--- parts of a list of inputs
-
-pub tells-part : (later gs : List Given) → IsFirstPart (tells gs) (tells (later ++ gs))
-tells-part [] gs = ([], sym (append-nil (tells gs)))
-tells-part (g ∷ later) gs =
-    let k = tells-part later gs in
-    (k.0 ++ news_of_asks (turn_after (later ++ gs) g).asks, tells-more g (later ++ gs) ∙ ap (λ (l : List What). l ++ news_of_asks (turn_after (later ++ gs) g).asks) k.1 ∙ append_assoc (tells gs) k.0 (news_of_asks (turn_after (later ++ gs) g).asks))
-
-pub orders-part : (later gs : List Given) → IsFirstPart (orders_of gs) (orders_of (later ++ gs))
-orders-part [] gs = ([], sym (append-nil (orders_of gs)))
-orders-part (g ∷ later) gs = (let k = orders-part later gs in (k.0 ++ order_in g.input, ap (λ (l : List Order). l ++ order_in g.input) k.1 ∙ append_assoc (orders_of gs) k.0 (order_in g.input)))
-
-pub run-part : (later gs : List Given) → list_all is_of_run (later ++ gs) ≡ true → list_all is_of_run gs ≡ true
-run-part [] gs h = h
-run-part (g ∷ later) gs h = run-part later gs (split-and (is_of_run g) (list_all is_of_run (later ++ gs)) h).1
-
-pub begins-then : {A : Type 0} (xs ys zs : List A) → IsFirstPart xs ys → IsFirstPart ys zs → IsFirstPart xs zs
-begins-then xs ys zs a b = (a.0 ++ b.0, b.1 ∙ ap (λ (l : List _). l ++ b.0) a.1 ∙ append_assoc xs a.0 b.0)
