@@ -1,6 +1,6 @@
 -- The controller takes the end of a test.
-use Rattle.std.proofs.Common.{◌≡◌, ℕ, ◌+◌, List, [], ◌∷◌, ◌++◌, take, drop, length, map, Bool, true, false, not, refl, ap, sym, ◌∙◌, arith, length-append}
-use Rattle.std.specs.Prelude.{◌==◌, if◌then◌else◌}
+use Rattle.std.proofs.Common.{◌≡◌, ℕ, ◌+◌, List, [], ◌∷◌, ◌++◌, take, drop, length, Bool, true, false, refl, ap, sym, ◌∙◌, arith, length-append}
+use Rattle.std.specs.Prelude.{◌==◌}
 use Rattle.std.specs.List.{list_any}
 use Rattle.std.proofs.lemmas.Bool.Decides.{nat_tests}
 use Rattle.std.proofs.lemmas.List.{append-nil}
@@ -9,8 +9,8 @@ use Rattle.xd_journal.specs.declared.entry.Outcome.{Outcome}
 use Rattle.xd_journal.specs.declared.entry.Entry.{Entry}
 use Rattle.xd_journal.specs.declared.entry.Entry.TheVariants.{Done}
 use Rattle.xd_ledger.specs.declared.seat.Seat.{Seat}
-use Rattle.xd_ledger.specs.Numbers.{all_among, all_distinct, among, without}
-use Rattle.xd_ledger.specs.Plan.{Plan, base, is_each, items_named}
+use Rattle.xd_ledger.specs.Numbers.{all_among, all_distinct, without}
+use Rattle.xd_ledger.specs.Plan.{items_named}
 use Rattle.xd_ledger.specs.Proper.{is_head, may_follow, names_head}
 use Rattle.xd_ledger.specs.Results.{completed_first}
 use Rattle.xd_ledger.specs.Sharing.{State}
@@ -18,14 +18,14 @@ use Rattle.xd_ledger.specs.State.{after_effect}
 use Rattle.xd_ledger.specs.Table.{Table, at_seat, completed, held, held_in, in_rota}
 use Rattle.xd_ledger.specs.Workers.{is_active, slot_of}
 use Rattle.xd_laws.proofs.Counts.{distinct-of_times, all_among-append}
-use Rattle.xd_laws.proofs.Logic.{and, differ, or-false, split-and}
+use Rattle.xd_laws.proofs.Logic.{differ, or-false, split-and}
 use Rattle.xd_laws.proofs.Placed.{Placed, at_most_once}
 use Rattle.xd_laws.proofs.Places.{held-within, times-table}
 use Rattle.xd_laws.proofs.Rota.{seat-change}
 use Rattle.xd_system.specs.Own.{answer_in, answers_by, ends_by, test_ended_in, order_told, told_to}
 use Rattle.xd_system.proofs.Deal.{Deal, line_at}
-use Rattle.xd_system.proofs.Lists.{drop-next, take-next, among-longer, all-last, itself-last, without-other, without-first}
-use Rattle.xd_system.proofs.Named.{item_at, named-first, named-none, item-same, named-append, named-head}
+use Rattle.xd_system.proofs.Lists.{drop-next, take-next, all-last, itself-last, without-first}
+use Rattle.xd_system.proofs.Named.{item_at, named-first, named-none, named-append, named-head}
 
 -- the head of what is held
 

@@ -1,58 +1,26 @@
 -- Which entry ends a worker, and which news mean that it finished.
-use Rattle.std.proofs.Common.{◌≡◌, ℕ, zero, suc, ◌+◌, List, [], ◌∷◌, ◌++◌, drop, length, map, Bool, true, false, not, ◌&&◌, ◌||◌, refl, ap, sym, ◌∙◌, subst, arith, append_assoc, inl, inr}
-use Rattle.std.specs.Prelude.{◌⊎◌, ◌==◌, fold, if◌then◌else◌, Option, Some, None, is_none}
+use Rattle.std.proofs.Common.{◌≡◌, ℕ, List, [], ◌∷◌, ◌++◌, Bool, true, false, not, ◌&&◌, ◌||◌, refl, ap, sym, ◌∙◌, arith}
+use Rattle.std.specs.Prelude.{◌==◌, if◌then◌else◌, Option, Some, None, is_none}
 use Rattle.std.specs.List.{list_any}
 use Rattle.std.proofs.lemmas.Bool.Decides.{nat_tests}
-use Rattle.std.proofs.lemmas.Grind.{fold-append}
-use Rattle.std.proofs.lemmas.List.{append-nil}
-use Rattle.std.proofs.lemmas.List.Elements.{filter_map-append}
 use Rattle.std.proofs.lemmas.List.Folds.{list_any-append}
-use Rattle.xd_journal.specs.declared.settings.Settings.{Settings}
 use Rattle.xd_journal.specs.declared.entry.Entry.{Entry}
 use Rattle.xd_journal.specs.declared.entry.Entry.TheVariants.{Ready, Collected, Done, Back, Finished, Refused, Down, NotStarted, Start, Run, RunAll, Steal, Shutdown, Kill, Over}
 use Rattle.xd_journal.specs.declared.entry.Ids.TheVariants as ids
-use Rattle.xd_journal.specs.declared.entry.Outcome.{Outcome}
-use Rattle.xd_journal.specs.declared.news.News.{News}
 use Rattle.xd_journal.specs.declared.news.What.{What}
 use Rattle.xd_journal.specs.declared.news.What.TheVariants as what
 use Rattle.xd_ledger.specs.declared.member.Listed.{Listed}
-use Rattle.xd_ledger.specs.declared.member.Member.{Member}
 use Rattle.xd_ledger.specs.Collections.{differ_at, listed}
-use Rattle.xd_ledger.specs.Histories.{starts_from, is_over}
-use Rattle.xd_ledger.specs.Meaning.{Log, any_open, breach, is_of, is_open_log, log_of, may_start_log, meaning_of, or_breach, output_of, spent_by}
+use Rattle.xd_ledger.specs.Meaning.{Log, any_open, breach, is_of, is_open_log, may_start_log, meaning_of, or_breach, output_of}
 use Rattle.xd_ledger.specs.Orderly.{all_orderly, is_orderly}
-use Rattle.xd_ledger.specs.Outputs.{outputs}
-use Rattle.xd_ledger.specs.Proper.{IsProper, may_follow, names_head}
+use Rattle.xd_ledger.specs.Proper.{may_follow, names_head}
 use Rattle.xd_ledger.specs.Sharing.{State}
 use Rattle.xd_ledger.specs.State.{after_effect}
-use Rattle.xd_ledger.specs.Stops.{is_shutting, is_stopped}
-use Rattle.xd_ledger.specs.Table.{held, in_rota}
-use Rattle.xd_ledger.specs.Workers.{has_collected, has_member, is_active, is_shut, made_gone, some_active}
 use Rattle.xd_laws.specs.Stopped.{is_death}
-use Rattle.xd_laws.proofs.Logic.{cases_of, differ, in_both, not_true, or-false, split-and}
-use Rattle.xd_laws.proofs.Members.{has, has-cleared, has-member, has-same}
-use Rattle.xd_session.specs.History.{IsProperRun, Run as SoFar, after_news, begun_run, input_of, run_of, said_by}
-use Rattle.xd_session.proofs.Steps.{input-follows, outputs-orderly, run-more, sound-run}
-use Rattle.xd_run_tests.specs.declared.ask.Ask.{Ask}
-use Rattle.xd_system.specs.Laws.{ReportsItsTests}
-use Rattle.xd_system.specs.Fits.{is_collected}
-use Rattle.xd_system.specs.Moment.{IsFirstPart, IsCutShort, IsHonestAt, LinkNow, told_so_far}
-use Rattle.xd_system.specs.Own.{outcome_in, outcome_of_news, outcomes_by, outcomes_in, order_told, told_to}
-use Rattle.xd_system.specs.Tells.{news_of_asks, orders_of, tells, outcomes}
-use Rattle.xd_system.proofs.Accused.{at-last, entries-fold, honest-next, took-cases}
-use Rattle.xd_system.proofs.Acts.{Acts, acts-none, is_end_of, is_refusal, keeps_acts}
+use Rattle.xd_laws.proofs.Logic.{differ, in_both, split-and}
+use Rattle.xd_system.proofs.Acts.{is_end_of, is_refusal}
 use Rattle.xd_system.proofs.Call.{is_last_told}
-use Rattle.xd_system.proofs.Deal.{size_at}
-use Rattle.xd_system.proofs.Dones.{ended-dones, started-ended, told-dones}
-use Rattle.xd_system.proofs.Echo.{Echo, entry_of, meaning-elim}
-use Rattle.xd_system.proofs.Placed.{Called, deal-now, echo-now, joined-call, marks-now, quiet-call}
-use Rattle.xd_system.proofs.Results.{Reported, keeps_reported, reported-none, results}
-use Rattle.xd_system.proofs.Runs.{HonestSoFar, added, entries-added, input-own, honest-begun, state-after}
-use Rattle.xd_system.proofs.Silent.{Silent, keeps_silent}
-use Rattle.xd_system.proofs.Walks.{at-run, onward}
-use Rattle.xd_system.proofs.Worker.{CallIs, IsDone}
-use Rattle.xd_system.proofs.Said.{said-join, said-own}
-use Rattle.std.proofs.Math.Seq.{drop-append_seam}
+use Rattle.xd_system.proofs.Echo.{entry_of, meaning-elim}
 
 -- entries that end nobody
 

@@ -1,13 +1,13 @@
 -- Where nobody went down, each item of a run that is over and was not stopped ran once.
-use Rattle.std.proofs.Common.{◌≡◌, ℕ, ◌+◌, ◌<◌, List, [], ◌∷◌, ◌++◌, map, length, Bool, true, false, refl, ap, sym, ◌∙◌, subst, arith, inl, inr}
-use Rattle.std.specs.Prelude.{◌⊎◌, ◌==◌, filter, if◌then◌else◌}
+use Rattle.std.proofs.Common.{◌≡◌, ℕ, ◌+◌, ◌<◌, List, [], ◌∷◌, map, length, Bool, true, false, refl, ap, sym, ◌∙◌, subst, arith, inl, inr}
+use Rattle.std.specs.Prelude.{◌==◌, filter, if◌then◌else◌}
 use Rattle.std.specs.List.{list_any}
 use Rattle.std.proofs.lemmas.Bool.Decides.{nat_tests}
 use Rattle.xd_journal.specs.declared.entry.Entry.{Entry}
 use Rattle.xd_journal.specs.declared.entry.Outcome.{Outcome}
 use Rattle.xd_journal.specs.declared.news.News.{News}
 use Rattle.xd_journal.specs.declared.settings.Settings.{Settings}
-use Rattle.xd_ledger.specs.Histories.{after_inputs, after_starts, is_over, journal_of}
+use Rattle.xd_ledger.specs.Histories.{is_over}
 use Rattle.xd_ledger.specs.Numbers.{times}
 use Rattle.xd_ledger.specs.Plan.{base, total}
 use Rattle.xd_ledger.specs.Proper.{IsProper}
@@ -15,16 +15,13 @@ use Rattle.xd_ledger.specs.Reports.{Report, Result, Crash, item_of, reports}
 use Rattle.xd_ledger.specs.Sharing.{State}
 use Rattle.xd_ledger.specs.Stops.{is_stopped}
 use Rattle.xd_ledger.specs.Workers.{has_member, slot_of}
-use Rattle.xd_laws.specs.Reported.{AreOnce}
 use Rattle.xd_laws.specs.Stopped.{is_death}
 use Rattle.xd_laws.proofs.Laws.{reported_once}
-use Rattle.xd_laws.proofs.Logic.{cases_of, differ}
-use Rattle.xd_run_tests.specs.History.{started_tests}
+use Rattle.xd_laws.proofs.Logic.{cases_of}
 use Rattle.xd_session.specs.History.{IsProperRun, Run as SoFar, run_of}
 use Rattle.xd_session.proofs.Steps.{sound-run}
-use Rattle.xd_system.specs.Laws.{AllRanOnce, RanOnce, ReportsItsTests, RunsEachOnce, is_report_of}
+use Rattle.xd_system.specs.Laws.{RanOnce, ReportsItsTests, RunsEachOnce, is_report_of}
 use Rattle.xd_system.specs.Moment.{IsHonestAt, LinkNow}
-use Rattle.xd_system.specs.Own.{outcomes_by}
 use Rattle.xd_system.specs.Tells.{outcomes}
 use Rattle.xd_system.proofs.Once.{reports_its_tests}
 use Rattle.xd_system.proofs.Results.{Reported, keeps_reported, reported-none, results}

@@ -1,5 +1,5 @@
 -- The controller takes the answer to a steal.
-use Rattle.std.proofs.Common.{◌≡◌, ℕ, zero, suc, ◌+◌, ◌≤◌, List, [], ◌∷◌, ◌++◌, take, drop, length, Bool, true, false, not, ◌&&◌, refl, ap, sym, ◌∙◌, subst, arith, length-append, inl, inr}
+use Rattle.std.proofs.Common.{◌≡◌, ℕ, ◌+◌, ◌≤◌, List, [], ◌∷◌, ◌++◌, take, drop, length, Bool, true, false, not, ◌&&◌, refl, ap, sym, ◌∙◌, arith, length-append, inl, inr}
 use Rattle.std.specs.Prelude.{◌==◌, if◌then◌else◌, Option, Some, None}
 use Rattle.std.specs.List.{range_with_len}
 use Rattle.std.specs.Str.{bytes_eq}
@@ -13,13 +13,13 @@ use Rattle.xd_gateway.specs.declared.order.Order.{Order}
 use Rattle.xd_gateway.specs.declared.order.Order.TheVariants.{RunTests, RunAll, Steal, Shutdown}
 use Rattle.xd_ledger.specs.declared.seat.Seat.{Seat}
 use Rattle.xd_ledger.specs.Numbers.{all_among, all_distinct, among, without}
-use Rattle.xd_ledger.specs.Plan.{Plan, UnansweredSteal, items_named}
+use Rattle.xd_ledger.specs.Plan.{UnansweredSteal, items_named}
 use Rattle.xd_ledger.specs.Proper.{may_follow, may_give_back}
 use Rattle.xd_ledger.specs.Sharing.{State}
 use Rattle.xd_ledger.specs.State.{after_effect}
 use Rattle.xd_ledger.specs.Table.{at_seat, held, held_in}
 use Rattle.xd_ledger.specs.Workers.{is_active, slot_of}
-use Rattle.xd_laws.proofs.Counts.{among_of-all_among, among-drop, distinct-filter}
+use Rattle.xd_laws.proofs.Counts.{among-drop, distinct-filter}
 use Rattle.xd_laws.proofs.Logic.{cases_of, differ, split-and}
 use Rattle.xd_laws.proofs.Rota.{seat-change}
 use Rattle.xd_ledger.specs.Orderly.{is_in_order}
@@ -30,7 +30,7 @@ use Rattle.xd_system.proofs.Deal.{Deal, asked_of, line_at, size_at}
 use Rattle.xd_system.proofs.Lines.{distinct-more, without-none}
 use Rattle.xd_system.proofs.Lists.{apart-of, within-dropped, drop-next}
 use Rattle.std.proofs.Math.Seq.{take-length, drop-length}
-use Rattle.xd_system.proofs.Named.{item_at, named-first, named-none, item-same, same-items, named-without, among-named}
+use Rattle.xd_system.proofs.Named.{item_at, named-none, same-items, named-without, among-named}
 
 -- the line of fair orders has no test twice
 pub distinct-fair : (size : ℕ) (line : List ℕ) (R : List Order) (backs : List (List ℕ)) → all_distinct line ≡ true → are_fair size line R backs ≡ true → all_distinct (line_given size line R backs) ≡ true

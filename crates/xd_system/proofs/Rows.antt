@@ -7,7 +7,6 @@ use Rattle.xd_journal.specs.declared.settings.Settings.{Settings}
 use Rattle.xd_journal.specs.declared.entry.Cause.TheVariants.{Ended}
 use Rattle.xd_journal.specs.declared.entry.Outcome.TheVariants.{Passed}
 use Rattle.xd_journal.specs.declared.news.News.{News}
-use Rattle.xd_journal.specs.declared.news.What.{What}
 use Rattle.xd_journal.specs.declared.news.What.TheVariants as what
 use Rattle.xd_gateway.specs.declared.order.Order.TheVariants.{RunTests, RunAll, Shutdown, Steal}
 use Rattle.xd_ledger.specs.Proper.{IsProper}
@@ -22,7 +21,6 @@ use Rattle.xd_system.specs.Moment.{IsHonestAt, LinkNow, news_on_way, orders_on_w
 use Rattle.xd_system.specs.Own.{is_accused, told_to}
 use Rattle.xd_system.proofs.Accused.{never_accused}
 use Rattle.xd_system.proofs.Begun.{later-begun}
-use Rattle.xd_system.proofs.Placed.{each_placed}
 use Rattle.xd_system.proofs.Runs.{first-begun}
 use Rattle.xd_system.proofs.Scene.{after_steal, before_steal, by, given, link_with, run_test, stealing, stealing-proper, taken, ten, told_before}
 

@@ -1,49 +1,16 @@
 -- What a worker said, among the news of all.
-use Rattle.std.proofs.Common.{◌≡◌, ℕ, zero, suc, ◌+◌, List, [], ◌∷◌, ◌++◌, map, length, Bool, true, false, ◌&&◌, ◌||◌, refl, ap, sym, ◌∙◌, subst, arith, append_assoc, inl, inr, not}
-use Rattle.std.specs.Prelude.{◌⊎◌, ◌==◌, if◌then◌else◌, filter, Option, Some, None, fold}
+use Rattle.std.proofs.Common.{◌≡◌, ℕ, List, [], ◌∷◌, ◌++◌, map, Bool, true, false, refl, ap, sym, ◌∙◌}
+use Rattle.std.specs.Prelude.{◌==◌, if◌then◌else◌, filter, Some, None}
 use Rattle.std.specs.List.{cons_option, list_any}
-use Rattle.std.proofs.lemmas.Bool.Decides.{nat_tests}
-use Rattle.std.proofs.lemmas.List.{append-nil}
-use Rattle.std.proofs.lemmas.List.Elements.{filter_map-append}
-use Rattle.std.proofs.lemmas.List.Folds.{list_any-append}
-use Rattle.xd_journal.specs.declared.settings.Settings.{Settings}
 use Rattle.xd_journal.specs.declared.entry.Entry.{Entry}
 use Rattle.xd_journal.specs.declared.entry.Entry.TheVariants.{Ready, Collected, Done, Back, Finished, Refused, Down, NotStarted, Start, Run, RunAll, Steal, Shutdown, Kill, Over}
 use Rattle.xd_journal.specs.declared.news.News.{News}
 use Rattle.xd_journal.specs.declared.news.What.{What}
 use Rattle.xd_journal.specs.declared.news.What.TheVariants as what
-use Rattle.xd_ledger.specs.declared.member.Member.{Member}
-use Rattle.xd_ledger.specs.Books.{marked}
-use Rattle.xd_ledger.specs.Collections.{listed, unequal, with_list}
-use Rattle.xd_ledger.specs.Histories.{starts_from}
-use Rattle.xd_ledger.specs.Meaning.{breach, given_ids, log_of, meaning, meaning_of, or_breach, spent_by}
-use Rattle.xd_ledger.specs.Orderly.{is_orderly}
-use Rattle.xd_ledger.specs.Outputs.{outputs}
-use Rattle.xd_ledger.specs.Proper.{IsProper, may_follow}
-use Rattle.xd_ledger.specs.Sharing.{State, in_books}
-use Rattle.xd_ledger.specs.State.{after_effect, after_entries, is_input, no_one, settled}
-use Rattle.xd_ledger.specs.Workers.{has_collected, has_member, is_active, made_collected, made_gone, made_ready, made_shut, started}
-use Rattle.xd_laws.proofs.Inputs.{collecting-keeps}
-use Rattle.xd_laws.proofs.Laws.{lawful}
-use Rattle.xd_laws.proofs.Logic.{cases_of, differ, or-false}
-use Rattle.xd_laws.proofs.Members.{has, has-cleared, has-member, has-more, has-same}
-use Rattle.xd_laws.proofs.Shared.{Listing, keeps_listing, listing-none}
-use Rattle.xd_laws.proofs.Turns.{Tidy, after_entries-join}
-use Rattle.xd_laws.proofs.Walk.{Keeps, input-of}
-use Rattle.xd_session.specs.History.{IsProperRun, Run as SoFar, after_news, begun_run, entries_with, input_of, said_by}
-use Rattle.xd_session.proofs.Steps.{outputs-orderly, sound-next, sound-run}
+use Rattle.xd_laws.proofs.Logic.{differ}
+use Rattle.xd_session.specs.History.{said_by}
 use Rattle.xd_system.specs.Fits.{is_collected}
-use Rattle.xd_system.specs.Moment.{AfterStart}
-use Rattle.xd_system.specs.Own.{outcomes_by, ends_by, collections_in, collection_of_news, is_accused, is_breach_of, told_to}
-use Rattle.xd_system.proofs.Call.{is_last_told}
-use Rattle.xd_system.proofs.Deal.{Deals}
-use Rattle.xd_system.proofs.Echo.{Echo, echo-more, echo-none, entry_of, orderly-echo, other-echo, own-echo}
-use Rattle.xd_system.proofs.Keeping.{deals-none, keeps_deals}
-use Rattle.xd_system.proofs.Marks.{MarksSo, keeps_marks, marks-none}
-use Rattle.xd_system.proofs.Silent.{Silent, keeps_silent}
-use Rattle.xd_system.proofs.Sizes.{Sized, collects, keeps_sized}
-use Rattle.xd_system.proofs.Walks.{at-run, onward, state-run}
-use Rattle.xd_system.proofs.Started.{WasStarted, keep-member, keeps_member}
+use Rattle.xd_system.specs.Own.{outcomes_by, ends_by, collections_in}
 
 pub said-join : (w : ℕ) (xs ys : List News) → said_by w (xs ++ ys) ≡ said_by w xs ++ said_by w ys
 said-join w [] ys = refl

@@ -1,5 +1,5 @@
 -- What the worked moments share: news and inputs in short, and a run in mode worksteal.
-use Rattle.std.specs.Prelude.{◌≡◌, ℕ, List, [], ◌∷◌, ◌++◌, map, true, Some, None}
+use Rattle.std.specs.Prelude.{ℕ, List, [], ◌∷◌, ◌++◌, map, true, Some, None}
 use Rattle.std.proofs.Common.{refl}
 use Rattle.xd_edge.specs.declared.mode.ModeKind.TheVariants.{WorkSteal}
 use Rattle.xd_journal.specs.declared.settings.Settings.{Settings}

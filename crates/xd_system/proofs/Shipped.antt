@@ -1,13 +1,12 @@
 -- Each state that steps reach is a moment of honest workers.
-use Rattle.std.proofs.Common.{◌≡◌, ℕ, List, [], ◌∷◌, ◌++◌, Bool, true, false, ◌&&◌, ◌||◌, refl, ap, sym, ◌∙◌, subst, append_assoc, arith, inl, inr}
-use Rattle.std.specs.Prelude.{◌⊎◌, ◌==◌, drop, length, Some, if◌then◌else◌}
-use Rattle.std.specs.List.{list_all, list_any}
+use Rattle.std.proofs.Common.{◌≡◌, ℕ, List, [], ◌∷◌, ◌++◌, Bool, true, false, ◌||◌, refl, ap, sym, ◌∙◌, subst, append_assoc, arith, inl, inr}
+use Rattle.std.specs.Prelude.{◌==◌, drop, length, if◌then◌else◌}
+use Rattle.std.specs.List.{list_any}
 use Rattle.std.proofs.lemmas.Bool.Decides.{nat_tests}
 use Rattle.std.proofs.lemmas.List.{append-nil}
 use Rattle.std.proofs.lemmas.List.Folds.{list_any-append}
 use Rattle.std.proofs.Math.Seq.{drop-append_seam, drop-nil}
 use Rattle.xd_journal.specs.declared.entry.Cause.{Cause}
-use Rattle.xd_journal.specs.declared.entry.Entry.{Entry}
 use Rattle.xd_journal.specs.declared.news.News.{News}
 use Rattle.xd_journal.specs.declared.news.What.{What}
 use Rattle.xd_journal.specs.declared.news.What.TheVariants.{Gone, NotStarted}
@@ -18,19 +17,18 @@ use Rattle.xd_ledger.specs.Proper.{IsProper}
 use Rattle.xd_ledger.specs.Workers.{has_member}
 use Rattle.xd_laws.proofs.Logic.{and, cases_of, differ}
 use Rattle.xd_run_tests.specs.declared.input.Input.{Input}
-use Rattle.xd_run_tests.specs.declared.input.Input.TheVariants as input
 use Rattle.xd_run_tests.specs.History.{Given}
-use Rattle.xd_session.specs.History.{Run as SoFar, after_news, input_of, run_of, said_by}
+use Rattle.xd_session.specs.History.{Run as SoFar, input_of, run_of, said_by}
 use Rattle.xd_session.proofs.Steps.{run-more, sound-run}
-use Rattle.xd_system.specs.Moment.{AfterStart, WasBegun, IsCutShort, IsFirstPart, IsHonestAt, LinkNow, TookOf, news_on_way, orders_on_way, told_so_far}
+use Rattle.xd_system.specs.Moment.{AfterStart, WasBegun, IsFirstPart, IsHonestAt, LinkNow, TookOf, news_on_way, told_so_far}
 use Rattle.xd_system.specs.Own.{order_told, told_to}
 use Rattle.xd_system.specs.Steps.{MayCome, Ordered, SuiteRead, NoSuite, Printed, Ended, SystemStep, IsCalled, Comes, IsTaken, Cut, IsGone, Unstarted, Reaches, Fresh, Then, ShippedAreHonest, System, fresh_system, heard_end, is_link_over, system_with_link, system_with_news, with_call, link_cut, with_input}
-use Rattle.xd_system.specs.Tells.{comes_in_run, is_of_run, order_in, orders_of, tells}
+use Rattle.xd_system.specs.Tells.{comes_in_run, order_in, orders_of, tells}
 use Rattle.xd_system.proofs.Runs.{added, entries-added, member-then}
 use Rattle.xd_system.proofs.Suites.{suite-ids}
 use Rattle.xd_system.proofs.Told.{last-split}
 use Rattle.std.proofs.lemmas.List.Elements.{filter_map-append}
-use Rattle.xd_system.proofs.Parts.{tells-part, orders-part, begins-then}
+use Rattle.xd_system.proofs.Parts.{tells-part, begins-then}
 use Rattle.xd_system.proofs.Said.{said-join, said-own, said-other}
 
 -- first parts

@@ -4,14 +4,13 @@ use Rattle.std.specs.Prelude.{◌==◌, nat_lt, filter, if◌then◌else◌, Opt
 use Rattle.std.specs.List.{list_all, list_any}
 use Rattle.std.specs.Str.{bytes_eq}
 use Rattle.std.proofs.lemmas.Bool.Decides.{nat_tests}
-use Rattle.std.proofs.lemmas.Grind.{common_steps}
 use Rattle.std.proofs.lemmas.List.{append-nil, take-append-drop, drop-map, map-append, take-append-le}
 use Rattle.std.proofs.lemmas.List.Elements.{filter-append}
 use Rattle.std.proofs.lemmas.Slice.Eq.{bytes_eq-Decides}
 use Rattle.xd_journal.specs.declared.news.What.{What}
 use Rattle.xd_journal.specs.declared.news.What.TheVariants as what
 use Rattle.xd_gateway.specs.declared.order.Order.{Order}
-use Rattle.xd_gateway.specs.declared.order.Order.TheVariants.{RunTests, RunAll, Steal, Shutdown}
+use Rattle.xd_gateway.specs.declared.order.Order.TheVariants.{Steal}
 use Rattle.xd_ledger.specs.Meaning.{Log, any_open, is_of, log_of, number_of, with_news}
 use Rattle.xd_ledger.specs.Numbers.{all_among, all_distinct, among, without}
 use Rattle.xd_run_tests.specs.declared.ask.Ask.TheVariants.{Tell}

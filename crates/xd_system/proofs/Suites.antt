@@ -1,23 +1,23 @@
 -- The ids of a suite file are ids that a worker may collect.
-use Rattle.std.proofs.Common.{◌≡◌, ℕ, ◌+◌, List, [], ◌∷◌, ◌++◌, map, length, Bool, true, false, not, ◌&&◌, ◌||◌, refl, ap, sym, ◌∙◌, subst, arith}
+use Rattle.std.proofs.Common.{◌≡◌, ℕ, ◌+◌, List, [], ◌∷◌, ◌++◌, length, Bool, true, false, not, ◌&&◌, ◌||◌, refl, ap, sym, ◌∙◌, arith}
 use Rattle.std.specs.Prelude.{Option, Some, None, nat_le, is_some, option_map, unwrap_or, if◌then◌else◌, codes}
 use Rattle.std.specs.List.{list_all, list_any}
 use Rattle.std.specs.Option.{option_or}
 use Rattle.std.specs.Str.{bytes_eq, chars}
 use Rattle.std.proofs.lemmas.List.Folds.{list_any-append}
-use Rattle.toml.specs.Data.{Data, Items, no_items, item, Members, as_str}
+use Rattle.toml.specs.Data.{Items, no_items, item, Members}
 use Rattle.xd_edge.specs.declared.mode.ModeKind.{ModeKind}
 use Rattle.xd_edge.specs.declared.mode.ModeKind.TheVariants.{Local, Each, Load, LoadScope, LoadFile, LoadGroup, WorkSteal}
 use Rattle.xd_edge.proofs.TextLemmas.{bytes_eq-sym}
 use Rattle.xd_edge.specs.Ids.{is_id, is_plain}
 use Rattle.xd_edge.specs.Limits.{most_tests}
 use Rattle.xd_ledger.specs.Proper.{has_text, no_text_twice}
-use Rattle.xd_laws.proofs.Logic.{and, cases_of, differ, not_true, split-and}
+use Rattle.xd_laws.proofs.Logic.{and, differ, not_true, split-and}
 use Rattle.xd_suite.specs.declared.test.Test.{Test}
 use Rattle.xd_suite.specs.declared.fault.SuiteWhat.{SuiteWhat}
-use Rattle.xd_suite.specs.declared.fault.SuiteWhat.TheVariants.{UnknownKey, WrongKind, TooMany, Missing, BadId, Repeated}
+use Rattle.xd_suite.specs.declared.fault.SuiteWhat.TheVariants.{UnknownKey, WrongKind, TooMany, Missing, BadId}
 use Rattle.xd_suite.specs.declared.fault.SuiteFault.{SuiteFault}
-use Rattle.xd_suite.specs.Faults.{broken_rule, count_items, fault_of_ids, fault_of_test, each_item_holds, fault_of_tests, has_good_ids, has_group_kind, has_kinds, has_only_keys, has_test_kind, is_array_with, is_id_if_any, is_suite_key, is_test_key, is_toml_text, lacks_key, of_file, of_test, repeat_from, repeat_of}
+use Rattle.xd_suite.specs.Faults.{count_items, fault_of_ids, fault_of_test, each_item_holds, fault_of_tests, has_good_ids, has_group_kind, has_kinds, has_only_keys, has_test_kind, is_array_with, is_id_if_any, is_suite_key, is_test_key, is_toml_text, lacks_key, of_file, of_test, repeat_from}
 use Rattle.xd_suite.specs.Suite.{IsSuiteOf}
 use Rattle.xd_suite.specs.Tests.{array_at, group_id, id_by_mode, ids_by_mode, members_of, test_items, test_of, tests_of, text_at, with_group}
 use Rattle.xd_suite.proofs.NewIds.{no_repeat}

@@ -1,27 +1,24 @@
 -- Four wrong workers. Each is shown at a moment of the run of Scene: what it tells, that the controller calls it
 -- in breach or that a law's equation is false of it, and what the machine of `run_tests` does in its place. So a
 -- definition of an honest worker that let it through would make the law false.
-use Rattle.std.specs.Prelude.{◌≡◌, ℕ, List, [], ◌∷◌, ◌++◌, Bool, true, false, Some, None}
+use Rattle.std.specs.Prelude.{◌≡◌, List, [], ◌∷◌, ◌++◌, true, Some, None}
 use Rattle.std.proofs.Common.{refl, sym, ◌∙◌}
 use Rattle.xd_journal.specs.declared.entry.Outcome.TheVariants.{Passed}
 use Rattle.xd_journal.specs.declared.news.News.{News}
 use Rattle.xd_journal.specs.declared.news.What.{What}
 use Rattle.xd_journal.specs.declared.news.What.TheVariants as what
-use Rattle.xd_gateway.specs.declared.order.Order.TheVariants.{RunTests, Shutdown, Steal}
-use Rattle.xd_ledger.specs.Numbers.{without}
+use Rattle.xd_gateway.specs.declared.order.Order.TheVariants.{Shutdown}
 use Rattle.xd_ledger.specs.Table.{held}
-use Rattle.xd_ledger.specs.Workers.{is_active}
 use Rattle.xd_laws.proofs.Logic.{differ}
 use Rattle.xd_run_tests.specs.declared.input.Input.TheVariants as input
-use Rattle.xd_run_tests.specs.History.{Given, call_after, started_tests, turn_after}
+use Rattle.xd_run_tests.specs.History.{Given, call_after, started_tests}
 use Rattle.xd_run_tests.specs.Line.{left, running_test, tests_in_line}
 use Rattle.xd_session.specs.History.{run_of}
-use Rattle.xd_system.specs.Fits.{FitsNext}
-use Rattle.xd_system.specs.Moment.{IsHonestAt, LinkNow, news_on_way}
+use Rattle.xd_system.specs.Moment.{IsHonestAt, LinkNow}
 use Rattle.xd_system.specs.Own.{is_accused}
 use Rattle.xd_system.specs.Tells.{tells}
 use Rattle.xd_system.proofs.Accused.{never_accused}
-use Rattle.xd_system.proofs.Scene.{after_steal, before_steal, by, given, link_with, run_test, stealing, stealing-proper, taken, ten, told_before}
+use Rattle.xd_system.proofs.Scene.{after_steal, before_steal, by, given, stealing, stealing-proper, taken, ten, told_before}
 
 -- whatever came to it and however its link stands, whoever is called in breach was not honest
 not-honest : (news : List News) → is_accused 1 (run_of stealing news).entries ≡ true → (l : LinkNow) → IsHonestAt stealing news 1 l → ⊥

@@ -2,7 +2,7 @@
 -- do not say when an answer came. A steal that has no answer yet takes nothing. That a worker gives back all that
 -- a steal asks, or nothing, is a choice of this project; the orders are those of pytest-xdist's
 -- `workermanage.py`.
-use Rattle.std.specs.Prelude.{ℕ, ◌&&◌, ◌||◌, not, nat_lt, Bool, true, false, List, [], ◌∷◌, ◌++◌, drop, filter}
+use Rattle.std.specs.Prelude.{ℕ, ◌&&◌, ◌||◌, not, nat_lt, Bool, true, false, List, [], ◌∷◌, ◌++◌, drop}
 use Rattle.std.specs.List.{list_all, range_with_len}
 use Rattle.std.specs.Str.{bytes_eq}
 use Rattle.xd_gateway.specs.declared.order.Order.{Order}
