@@ -2,7 +2,7 @@
 -- in breach or that a law's equation is false of it, and what the machine of `run_tests` does in its place. So a
 -- definition of an honest worker that let it through would make the law false.
 use Rattle.std.specs.Prelude.{◌≡◌, List, [], ◌∷◌, ◌++◌, true, Some, None}
-use Rattle.std.proofs.Common.{refl, sym, ◌∙◌}
+use Rattle.std.proofs.Common.{false, refl, sym, ◌∙◌}
 use Rattle.xd_journal.specs.declared.entry.Outcome.TheVariants.{Passed}
 use Rattle.xd_journal.specs.declared.news.News.{News}
 use Rattle.xd_journal.specs.declared.news.What.{What}
@@ -18,7 +18,7 @@ use Rattle.xd_system.specs.Moment.{IsHonestAt, LinkNow}
 use Rattle.xd_system.specs.Own.{is_accused}
 use Rattle.xd_system.specs.Tells.{tells}
 use Rattle.xd_system.proofs.Accused.{never_accused}
-use Rattle.xd_system.proofs.Scene.{after_steal, before_steal, by, given, stealing, stealing-proper, taken, ten, told_before}
+use Rattle.xd_system.proofs.Scene.{link_with, run_test, after_steal, before_steal, by, given, stealing, stealing-proper, taken, ten, told_before}
 
 -- whatever came to it and however its link stands, whoever is called in breach was not honest
 not-honest : (news : List News) → is_accused 1 (run_of stealing news).entries ≡ true → (l : LinkNow) → IsHonestAt stealing news 1 l → ⊥
@@ -93,3 +93,17 @@ nine-unstarted = refl
 -- with the mark it starts it
 nine-starts : started_tests (given (input.Command (Some Shutdown)) ∷ one_left) ≡ 5 ∷ 6 ∷ 7 ∷ 8 ∷ 9 ∷ []
 nine-starts = refl
+
+-- one that starts 9 all the same is called in no breach, since the controller cannot tell
+abbrev ran_four : List What
+ran_four = run_test 5 2 ++ (run_test 6 4 ++ (run_test 7 6 ++ run_test 8 8))
+
+unmarked-unseen : is_accused 1 (run_of stealing (taken ++ by 1 (ran_four ++ what.LogStart 9 10 ∷ []))).entries ≡ false
+unmarked-unseen = refl
+
+-- but nobody honest to whom this came told so
+unmarked-not-honest : IsHonestAt stealing (taken ++ by 1 (ran_four ++ what.LogStart 9 10 ∷ [])) 1 (link_with one_left) → ⊥
+unmarked-not-honest h =
+    let later = h.news.0 in
+    let told : what.Ready ∷ what.Collected ten ∷ ran_four ≡ what.Ready ∷ what.Collected ten ∷ (ran_four ++ what.LogStart 9 10 ∷ later) = h.news.1 in
+    absurd cc
