@@ -58,9 +58,12 @@ module _ (w : ℕ) (s : State) (es : List Entry) (earlier : List What) (spent : 
   heads n h =
       let slot = slot_of w s.books in
       let part = first-held (holds (size_at w s) (told_to w es) earlier) n h in
-      let is : held w s.books.table ≡ item_at slot n s.plan ∷ items_named slot part.0 s.plan = sym holds-held ∙ ap (λ (l : List ℕ). items_named slot l s.plan) part.1 ∙ named-first slot n part.0 s.plan in
-      let one : items_named slot (n ∷ []) s.plan ≡ item_at slot n s.plan ∷ [] = named-first slot n [] s.plan ∙ ap (λ (l : List ℕ). item_at slot n s.plan ∷ l) (named-none slot s.plan) in
-      let head : is_head w (item_at slot n s.plan) s ≡ true = ap (λ (hs : List ℕ). elim hs as (λ _. Bool) [ [] ↦ false | t ∷ ts ↦ item_at slot n s.plan == t ]) is ∙ grind (arith, nat_tests) in
+      let is : held w s.books.table ≡ item_at slot n s.plan ∷ items_named slot part.0 s.plan = sym holds-held
+      ∙ ap (λ (l : List ℕ). items_named slot l s.plan) part.1 ∙ named-first slot n part.0 s.plan in
+      let one : items_named slot (n ∷ []) s.plan ≡ item_at slot n s.plan ∷ [] = named-first slot n [] s.plan
+      ∙ ap (λ (l : List ℕ). item_at slot n s.plan ∷ l) (named-none slot s.plan) in
+      let head : is_head w (item_at slot n s.plan) s ≡ true = ap (λ (hs : List ℕ). elim hs as (λ _. Bool) [ [] ↦ false | t ∷ ts ↦ item_at slot n s.plan == t ]) is
+      ∙ grind (arith, nat_tests) in
       ap (list_any (λ item. is_head w item s)) one ∙ and-or head
     where
       and-or : {b : Bool} → b ≡ true → (b || false) ≡ true
@@ -80,7 +83,8 @@ module _ (w : ℕ) (s : State) (es : List Entry) (earlier : List What) (spent : 
       go true = ap is_some e
       go false = h
 
-  collects : (own : List (List ℕ)) → earlier ≡ what.Ready ∷ [] → are_suite_ids own ≡ true → Fine w (or_breach w log spent s (given_ids w own s))
+  collects : (own : List (List ℕ)) → earlier ≡ what.Ready ∷ [] → are_suite_ids own ≡ true
+      → Fine w (or_breach w log spent s (given_ids w own s))
   collects own e h =
       let none : has_collected w s.books ≡ false = k.collected ∙ ap (list_any is_collected) e in
       go (listed w s.books) refl none
@@ -99,11 +103,13 @@ module _ (w : ℕ) (s : State) (es : List Entry) (earlier : List What) (spent : 
 
   -- answers
 
-  named-among : (slot : ℕ) (ns L : List ℕ) (p : Plan) → all_among ns L ≡ true → all_among (items_named slot ns p) (items_named slot L p) ≡ true
+  named-among : (slot : ℕ) (ns L : List ℕ) (p : Plan) → all_among ns L ≡ true
+      → all_among (items_named slot ns p) (items_named slot L p) ≡ true
   named-among slot [] L p h = ap (λ (l : List ℕ). all_among l (items_named slot L p)) (named-none slot p)
   named-among slot (n ∷ ns) L p h =
       let q = split-and (among n L) (all_among ns L) h in
-      ap (λ (l : List ℕ). all_among l (items_named slot L p)) (named-first slot n ns p) ∙ and (one L q.0) (named-among slot ns L p q.1)
+      ap (λ (l : List ℕ). all_among l (items_named slot L p)) (named-first slot n ns p)
+      ∙ and (one L q.0) (named-among slot ns L p q.1)
     where
       one : (M : List ℕ) → among n M ≡ true → among (item_at slot n p) (items_named slot M p) ≡ true
       one [] a = absurd (differ a)
@@ -120,7 +126,8 @@ module _ (w : ℕ) (s : State) (es : List Entry) (earlier : List What) (spent : 
   answers-back ns a = go s.plan.steal refl
     where
       unanswered : asked_of w s.plan.steal ≡ a.asked ∷ a.later
-      unanswered = d.open_steal ∙ ap (λ (l : List (List ℕ)). drop (length l) (steals_asked (told_to w es))) (sym k.answers) ∙ a.next
+      unanswered = d.open_steal
+          ∙ ap (λ (l : List (List ℕ)). drop (length l) (steals_asked (told_to w es))) (sym k.answers) ∙ a.next
 
       go : (o : Option UnansweredSteal) → s.plan.steal ≡ o → elim o as (λ _. Bool) [
         | None ↦ false
@@ -133,18 +140,21 @@ module _ (w : ℕ) (s : State) (es : List Entry) (earlier : List What) (spent : 
               → ((b.worker == w) && (elim ns as (λ _. Bool) [ [] ↦ true | i ∷ is ↦ bytes_eq (i ∷ is) b.tests && all_among (items_named (slot_of w s.books) (i ∷ is) s.plan) (drop 1 (held w s.books.table)) ])) ≡ true
           own (inr q) = absurd (let z : [] ≡ a.asked ∷ a.later = sym (ap (asked_of w) e ∙ ap (λ (v : Bool). if v then b.tests ∷ [] else []) q) ∙ unanswered in cc)
           own (inl q) =
-              let z : b.tests ∷ [] ≡ a.asked ∷ a.later = sym (ap (asked_of w) e ∙ ap (λ (v : Bool). if v then b.tests ∷ [] else []) q) ∙ unanswered in
+              let z : b.tests ∷ [] ≡ a.asked ∷ a.later = sym (ap (asked_of w) e ∙ ap (λ (v : Bool). if v then b.tests ∷ [] else []) q)
+              ∙ unanswered in
               let same : b.tests ≡ a.asked = cc in
               and q (each ns a.is a.waits same)
             where
-              each : (ms : List ℕ) → is_answer a.asked ms ≡ true → all_among ms (drop 1 (holds (size_at w s) (told_to w es) earlier)) ≡ true → b.tests ≡ a.asked
+              each : (ms : List ℕ) → is_answer a.asked ms ≡ true
+                  → all_among ms (drop 1 (holds (size_at w s) (told_to w es) earlier)) ≡ true → b.tests ≡ a.asked
                   → elim ms as (λ _. Bool) [ [] ↦ true | i ∷ is ↦ bytes_eq (i ∷ is) b.tests && all_among (items_named (slot_of w s.books) (i ∷ is) s.plan) (drop 1 (held w s.books.table)) ] ≡ true
               each [] i m same = refl
               each (x ∷ xs) i m same =
                   let slot = slot_of w s.books in
                   let there = named-among slot (x ∷ xs) (drop 1 (holds (size_at w s) (told_to w es) earlier)) s.plan m in
                   let row : items_named slot (drop 1 (holds (size_at w s) (told_to w es) earlier)) s.plan ≡ drop 1 (held w s.books.table) =
-                  sym (dropped-one slot (holds (size_at w s) (told_to w es) earlier) s.plan) ∙ ap (drop 1) holds-held in
+                  sym (dropped-one slot (holds (size_at w s) (told_to w es) earlier) s.plan)
+                  ∙ ap (drop 1) holds-held in
                   and (ap (bytes_eq (x ∷ xs)) same ∙ i) (subst (λ (l : List ℕ). all_among (items_named slot (x ∷ xs) s.plan) l ≡ true) row there)
 
   -- what fits is no breach
@@ -157,7 +167,9 @@ module _ (w : ℕ) (s : State) (es : List Entry) (earlier : List What) (spent : 
   accepts (what.Done n outcome ms) f = inr (Done w n outcome ms (output_of w outcome log spent s), rw (and (and (heads n f.head) f.logged) (ap not f.closed)) refl, refl)
   accepts (what.Back ns) f = followed (Back w ns) refl (and active (answers-back ns f))
   accepts what.Finished f =
-      let empty : held w s.books.table ≡ [] = sym holds-held ∙ ap (λ (l : List ℕ). items_named (slot_of w s.books) l s.plan) f.none ∙ named-none (slot_of w s.books) s.plan in
+      let empty : held w s.books.table ≡ [] = sym holds-held
+      ∙ ap (λ (l : List ℕ). items_named (slot_of w s.books) l s.plan) f.none
+      ∙ named-none (slot_of w s.books) s.plan in
       followed (Finished w) refl (and (and (and active (d.marks ∙ f.told)) (k.collected ∙ f.collected)) (ap (λ (l : List ℕ). length l == 0) empty))
   accepts (what.Closed None) f = absurd f
   accepts (what.Closed (Some text)) f = followed (Refused w text) refl (and active (ap not (k.collected ∙ f)))

@@ -52,10 +52,12 @@ use Rattle.xd_system.proofs.Said.{said-join, said-own}
 
 -- the same is held whatever the size, where nothing but a Shutdown was told
 
-quiet-holds : (a b : ℕ) (orders : List Order) (news : List What) → is_quiet orders ≡ true → holds a orders news ≡ holds b orders news
+quiet-holds : (a b : ℕ) (orders : List Order) (news : List What) → is_quiet orders ≡ true
+    → holds a orders news ≡ holds b orders news
 quiet-holds a b orders news q = ap (drop (length (ends_in news))) (quiet-line a orders (answers_in news) q ∙ sym (quiet-line b orders (answers_in news) q))
 
-fits-any : (a b : ℕ) (orders : List Order) (news : List What) → holds a orders news ≡ holds b orders news → (x : What) → FitsNext a orders news x → FitsNext b orders news x
+fits-any : (a b : ℕ) (orders : List Order) (news : List What) → holds a orders news ≡ holds b orders news → (x : What)
+    → FitsNext a orders news x → FitsNext b orders news x
 fits-any a b orders news h what.Ready f = f
 fits-any a b orders news h (what.Collected i) f = f
 fits-any a b orders news h (what.LogStart n m) f = record { head = subst (λ (l : List ℕ). first_of l ≡ Some n) h f.head; once = f.once; even = f.even; above = f.above }
@@ -84,7 +86,8 @@ short-asked w (Some a) = go (a.worker == w)
     go false = omega arith
 
 -- where in a list that ends with one more a piece stands
-pub at-last : (xs ys ks : List What) (x y : What) → xs ++ x ∷ ys ≡ ks ++ y ∷ [] → ((later : List What) × (ks ≡ xs ++ x ∷ later)) ⊎ ((x ≡ y) × (ks ≡ xs))
+pub at-last : (xs ys ks : List What) (x y : What) → xs ++ x ∷ ys ≡ ks ++ y ∷ []
+    → ((later : List What) × (ks ≡ xs ++ x ∷ later)) ⊎ ((x ≡ y) × (ks ≡ xs))
 at-last [] ys [] x y e = (let h : x ≡ y = cc in inr (h, refl))
 at-last [] ys (k ∷ ks) x y e = (let h : x ≡ k = cc in inl (ks, ap (λ (z : What). z ∷ ks) (sym h)))
 at-last (z ∷ xs) ys [] x y e = absurd (let t : xs ++ x ∷ ys ≡ [] = cc in empty xs t)
@@ -104,13 +107,15 @@ breach-of : (w : ℕ) (e : Entry) → is_breach_of w e ≡ true → (b : List �
 breach-of w (Down v Breach b) h = (let same : v ≡ w = grind (arith, nat_tests, h) in (b, ap (λ (u : ℕ). Down u Breach b) same))
 breach-of w e h = absurd (differ h)
 
-pub entries-fold : (r : SoFar) (post : List News) → (more : List Entry) × ((fold after_news r post).entries ≡ r.entries ++ more)
+pub entries-fold : (r : SoFar) (post : List News)
+    → (more : List Entry) × ((fold after_news r post).entries ≡ r.entries ++ more)
 entries-fold r [] = ([], sym (append-nil r.entries))
 entries-fold r (n ∷ post) =
     let k = entries-fold (after_news r n) post in
     (added r (input_of r n) ++ k.0, k.1 ∙ ap (λ (l : List Entry). l ++ k.0) (entries-added r (input_of r n)) ∙ append_assoc r.entries (added r (input_of r n)) k.0)
 
-pub took-cases : (b : Bool) (took told : List What) → TookOf b took told → IsFirstPart took told ⊎ (IsCutShort took told ⊎ (took ≡ what.NotStarted ∷ []))
+pub took-cases : (b : Bool) (took told : List What) → TookOf b took told
+    → IsFirstPart took told ⊎ (IsCutShort took told ⊎ (took ≡ what.NotStarted ∷ []))
 took-cases true took told t = inl t
 took-cases false took told t = t
 
@@ -132,10 +137,12 @@ module _ (settings : Settings) (taken : List News) (w : ℕ) (l : LinkNow) (prop
     echo = subst (λ (t : List News). Echo w r.entries (said_by w t)) (run-taken settings pre) (sofar.echo active)
 
     said-all : said_by w taken ≡ said ++ x ∷ said_by w post
-    said-all = ap (said_by w) split ∙ said-join w pre (n ∷ post) ∙ ap (λ (z : List What). said ++ z) (said-join w (n ∷ []) post ∙ ap (λ (z : List What). z ++ said_by w post) (said-own w n own))
+    said-all = ap (said_by w) split ∙ said-join w pre (n ∷ post)
+        ∙ ap (λ (z : List What). said ++ z) (said-join w (n ∷ []) post ∙ ap (λ (z : List What). z ++ said_by w post) (said-own w n own))
 
     input-is : input_of r n ≡ meaning_of w (log_of said) (spent_by r.entries) r.state x
-    input-is = input-own settings r n sound w own active ∙ ap (λ (t : List News). meaning_of w (log_of (said_by w t)) (spent_by r.entries) r.state x) (run-taken settings pre)
+    input-is = input-own settings r n sound w own active
+        ∙ ap (λ (t : List News). meaning_of w (log_of (said_by w t)) (spent_by r.entries) r.state x) (run-taken settings pre)
 
     marks : MarksSo w r.state r.entries
     marks = marks-at settings r n sound w
@@ -153,7 +160,8 @@ module _ (settings : Settings) (taken : List News) (w : ℕ) (l : LinkNow) (prop
     deal = (deals-at settings r n sound w).active active
 
     -- what may come is no breach
-    fine-by : FitsNext (size_at w r.state) (told_to w r.entries) said x → is_accused w (entry_of (input_of r n)) ≡ false
+    fine-by : FitsNext (size_at w r.state) (told_to w r.entries) said x
+        → is_accused w (entry_of (input_of r n)) ≡ false
     fine-by f = elim (accepts w r.state r.entries said (spent_by r.entries) active deal known x f) [
       | inl e ↦ ap (λ (o : Option Entry). is_accused w (entry_of o)) (input-is ∙ e)
       | inr e ↦ ap (λ (o : Option Entry). is_accused w (entry_of o)) (input-is ∙ e.1) ∙ ap (λ (b : Bool). b || false) e.2
@@ -167,7 +175,8 @@ module _ (settings : Settings) (taken : List News) (w : ℕ) (l : LinkNow) (prop
       breaks : (b : List ℕ) × (input_of r n ≡ Some (Down w Breach b))
       breaks = go (input_of r n) refl accused
         where
-          go : (o : Option Entry) → input_of r n ≡ o → is_accused w (entry_of o) ≡ true → (b : List ℕ) × (input_of r n ≡ Some (Down w Breach b))
+          go : (o : Option Entry) → input_of r n ≡ o → is_accused w (entry_of o) ≡ true
+              → (b : List ℕ) × (input_of r n ≡ Some (Down w Breach b))
           go None e k = absurd (differ k)
           go (Some e) q k = (let d = breach-of w e (sym (or-false (is_breach_of w e)) ∙ k) in (d.0, q ∙ ap Some d.1))
 
@@ -180,14 +189,20 @@ module _ (settings : Settings) (taken : List News) (w : ℕ) (l : LinkNow) (prop
           let end = run_of settings taken in
           let f = entries-fold (after_news r n) post in
           let is : end ≡ fold after_news (after_news r n) post =
-          ap (run_of settings) (split ∙ sym (append_assoc pre (n ∷ []) post)) ∙ fold-append after_news (begun_run settings) (pre ++ n ∷ []) post ∙ ap (λ (q : SoFar). fold after_news q post) (run-more settings pre n) in
+          ap (run_of settings) (split ∙ sym (append_assoc pre (n ∷ []) post))
+          ∙ fold-append after_news (begun_run settings) (pre ++ n ∷ []) post
+          ∙ ap (λ (q : SoFar). fold after_news q post) (run-more settings pre n) in
           let entries : end.entries ≡ (r.entries ++ ending ∷ []) ++ (outputs r.state ending ++ f.0) =
-          ap (λ (q : SoFar). q.entries) is ∙ f.1 ∙ ap (λ (es : List Entry). es ++ f.0) (entries-added r (input_of r n) ∙ ap (λ (o : Option Entry). r.entries ++ added r o) breaks.1)
-          ∙ append_assoc r.entries (ending ∷ outputs r.state ending) f.0 ∙ sym (append_assoc r.entries (ending ∷ []) (outputs r.state ending ++ f.0)) in
+          ap (λ (q : SoFar). q.entries) is ∙ f.1
+          ∙ ap (λ (es : List Entry). es ++ f.0) (entries-added r (input_of r n) ∙ ap (λ (o : Option Entry). r.entries ++ added r o) breaks.1)
+          ∙ append_assoc r.entries (ending ∷ outputs r.state ending) f.0
+          ∙ sym (append_assoc r.entries (ending ∷ []) (outputs r.state ending ++ f.0)) in
           let same : (w == w) ≡ true = grind (arith, nat_tests) in
           let silent : Silent w (told_to w r.entries) (outcomes_by w (r.entries ++ ending ∷ [])) (after_effect r.state ending) (r.entries ++ ending ∷ []) = record {
-            member = has-same w (λ m. true) (made_gone w) r.state.books.members (λ m. refl) (λ m. refl) ∙ has-member w (λ m. m.active) r.state.books.members active;
-            gone = has-cleared w w (λ m. m.active) (made_gone w) r.state.books.members (λ m. refl) (λ m. refl) ∙ ap (λ (b : Bool). not b && has w (λ m. m.active) r.state.books.members) same;
+            member = has-same w (λ m. true) (made_gone w) r.state.books.members (λ m. refl) (λ m. refl)
+                ∙ has-member w (λ m. m.active) r.state.books.members active;
+            gone = has-cleared w w (λ m. m.active) (made_gone w) r.state.books.members (λ m. refl) (λ m. refl)
+                ∙ ap (λ (b : Bool). not b && has w (λ m. m.active) r.state.books.members) same;
             told = filter_map-append (order_told w) r.entries (ending ∷ []) ∙ append-nil (told_to w r.entries);
             dones = refl;
           } in
@@ -204,12 +219,14 @@ module _ (settings : Settings) (taken : List News) (w : ℕ) (l : LinkNow) (prop
           empty [] e = cc
           empty (y ∷ xs) e = cc
 
-          go : (b : Bool) → l.called ≡ b → (if b then tells l.given else []) ≡ said ++ x ∷ later → tells l.given ≡ said ++ x ∷ later
+          go : (b : Bool) → l.called ≡ b → (if b then tells l.given else []) ≡ said ++ x ∷ later
+              → tells l.given ≡ said ++ x ∷ later
           go true e k = k
           go false e k = absurd (empty said k)
 
       -- so it may come, where the sizes agree
-      fits-size : (size : ℕ) → are_fair size [] (told_to w r.entries) (answers_by w r.entries) ≡ true → SizedBy size (tells l.given) → FitsNext size (told_to w r.entries) said x
+      fits-size : (size : ℕ) → are_fair size [] (told_to w r.entries) (answers_by w r.entries) ≡ true
+          → SizedBy size (tells l.given) → FitsNext size (told_to w r.entries) said x
       fits-size size fair sized =
           let A = told_to w r.entries in
           let given = answers_in (tells l.given) in
@@ -226,10 +243,13 @@ module _ (settings : Settings) (taken : List News) (w : ℕ) (l : LinkNow) (prop
       placed-so rota shared =
           let k = sofar.sized active (tidy.placed.fits.collected w rota) in
           let low : slot_of w r.state.books < r.state.books.settings.workers = tidy.members.below w (has-member w (λ m. m.active) r.state.books.members active) in
-          let size : size_at w r.state ≡ length k.own = size-listed w r.state k.is.listing shared low ∙ k.is.joined rota in
-          let first : collections_in said ≡ k.own ∷ k.rest = ap (λ (t : List News). collections_in (said_by w t)) (sym (run-taken settings pre)) ∙ k.ids in
+          let size : size_at w r.state ≡ length k.own = size-listed w r.state k.is.listing shared low
+          ∙ k.is.joined rota in
+          let first : collections_in said ≡ k.own ∷ k.rest = ap (λ (t : List News). collections_in (said_by w t)) (sym (run-taken settings pre))
+          ∙ k.ids in
           let all : collections_in (tells l.given) ≡ k.own ∷ (k.rest ++ collections_in (x ∷ later)) =
-          ap collections_in tells-are ∙ filter_map-append collection_of_news said (x ∷ later) ∙ ap (λ (z : List (List (List ℕ))). z ++ collections_in (x ∷ later)) first in
+          ap collections_in tells-are ∙ filter_map-append collection_of_news said (x ∷ later)
+          ∙ ap (λ (z : List (List (List ℕ))). z ++ collections_in (x ∷ later)) first in
           let sized : SizedBy (size_at w r.state) (tells l.given) = λ ids rest e. (let both : k.own ∷ (k.rest ++ collections_in (x ∷ later)) ≡ ids ∷ rest = sym all ∙ e in
           let same : k.own ≡ ids = cc in ap length (sym same) ∙ sym size) in
           differ (sym (fine-by (fits-size (size_at w r.state) deal.fair sized)) ∙ accused)
@@ -254,20 +274,25 @@ module _ (settings : Settings) (taken : List News) (w : ℕ) (l : LinkNow) (prop
         | inl a ↦ (elim (cases_of r.state.books.shared) [ inl b ↦ placed-so a b | inr b ↦ quiet-so (deal.unshared b) ])
       ]
 
-    told-fine : (later : List What) → told_so_far l ≡ said ++ x ∷ later → is_accused w (entry_of (input_of r n)) ≡ false
+    told-fine : (later : List What) → told_so_far l ≡ said ++ x ∷ later
+        → is_accused w (entry_of (input_of r n)) ≡ false
     told-fine later e = elim (cases_of (is_accused w (entry_of (input_of r n)))) [ inl a ↦ absurd (never later e a) | inr a ↦ a ]
 
     -- the end of the link
-    gone-fine : (cause : Cause) → x ≡ what.Gone cause → is_breach (what.Gone cause) ≡ false → is_accused w (entry_of (input_of r n)) ≡ false
-    gone-fine cause e k = ap (λ (o : Option Entry). is_accused w (entry_of o)) (input-is ∙ ap (meaning_of w (log_of said) (spent_by r.entries) r.state) e) ∙ go cause k
+    gone-fine : (cause : Cause) → x ≡ what.Gone cause → is_breach (what.Gone cause) ≡ false
+        → is_accused w (entry_of (input_of r n)) ≡ false
+    gone-fine cause e k = ap (λ (o : Option Entry). is_accused w (entry_of o)) (input-is ∙ ap (meaning_of w (log_of said) (spent_by r.entries) r.state) e)
+        ∙ go cause k
       where
-        go : (c : Cause) → is_breach (what.Gone c) ≡ false → is_accused w (Down w c (kept_at_death w (log_of said) (spent_by r.entries) r.state) ∷ []) ≡ false
+        go : (c : Cause) → is_breach (what.Gone c) ≡ false
+            → is_accused w (Down w c (kept_at_death w (log_of said) (spent_by r.entries) r.state) ∷ []) ≡ false
         go Breach q = absurd (differ (sym q))
         go _ q = refl
 
     unstarted-fine : x ≡ what.NotStarted → said ≡ [] → is_accused w (entry_of (input_of r n)) ≡ false
     unstarted-fine e s =
-        let early : was_ready w r.state.books ≡ false = marks.ready ∙ sym echo.ready ∙ ap (list_any is_ready_news) s in
+        let early : was_ready w r.state.books ≡ false = marks.ready ∙ sym echo.ready
+        ∙ ap (list_any is_ready_news) s in
         let may : may_follow r.state (NotStarted w) ≡ true = and active (ap not early) in
         ap (λ (o : Option Entry). is_accused w (entry_of o)) (input-is ∙ ap (meaning_of w (log_of said) (spent_by r.entries) r.state) e)
         ∙ ap (λ (b : Bool). is_accused w (entry_of (if b then Some (NotStarted w) else Some (breach w (log_of said) (spent_by r.entries) r.state)))) may
@@ -289,17 +314,20 @@ module _ (settings : Settings) (taken : List News) (w : ℕ) (l : LinkNow) (prop
         empty [] ys e = cc
         empty (y ∷ xs) ys e = cc
 
-        none : ((later : List What) × ([] ≡ said ++ x ∷ later)) ⊎ ((x ≡ what.NotStarted) × ([] ≡ said)) → is_accused w (entry_of (input_of r n)) ≡ false
+        none : ((later : List What) × ([] ≡ said ++ x ∷ later)) ⊎ ((x ≡ what.NotStarted) × ([] ≡ said))
+            → is_accused w (entry_of (input_of r n)) ≡ false
         none (inl a) = absurd (empty said a.0 a.1)
         none (inr a) = unstarted-fine a.0 (sym a.1)
 
   -- after all news
 
-  pub honest-next : (pre : List News) (n : News) (post : List News) → taken ≡ pre ++ n ∷ post → HonestSoFar w (run_of settings pre) → HonestSoFar w (run_of settings (pre ++ n ∷ []))
+  pub honest-next : (pre : List News) (n : News) (post : List News) → taken ≡ pre ++ n ∷ post
+      → HonestSoFar w (run_of settings pre) → HonestSoFar w (run_of settings (pre ++ n ∷ []))
   honest-next pre n post split sofar =
       subst (HonestSoFar w) (sym (run-more settings pre n)) (next settings (run_of settings pre) n (sound-run settings pre proper) w sofar (λ own. h.begun pre n post split own) (λ own active. fine pre n post split own sofar active))
 
-  inv-all : (post pre : List News) → taken ≡ pre ++ post → HonestSoFar w (run_of settings pre) → HonestSoFar w (run_of settings taken)
+  inv-all : (post pre : List News) → taken ≡ pre ++ post → HonestSoFar w (run_of settings pre)
+      → HonestSoFar w (run_of settings taken)
   inv-all [] pre split sofar = subst (λ (t : List News). HonestSoFar w (run_of settings t)) (sym (split ∙ append-nil pre)) sofar
   inv-all (n ∷ post) pre split sofar = inv-all post (pre ++ n ∷ []) (split ∙ sym (append_assoc pre (n ∷ []) post)) (honest-next pre n post split sofar)
 

@@ -44,7 +44,8 @@ pub within-less : (those xs ys : List ℕ) → Within xs ys → Within (without 
 within-less those xs ys k x h = k x (split-and (not (among x those)) (among x xs) (sym (among-filter x (λ y. not (among y those)) xs) ∙ h)).1
 
 -- the line with fewer answers has all of the line with more
-dealt-within : (size : ℕ) (R : List Order) (xs ys : List ℕ) (backs more : List (List ℕ)) → Within xs ys → Within (line_given size xs R (backs ++ more)) (line_given size ys R backs)
+dealt-within : (size : ℕ) (R : List Order) (xs ys : List ℕ) (backs more : List (List ℕ)) → Within xs ys
+    → Within (line_given size xs R (backs ++ more)) (line_given size ys R backs)
 dealt-within size [] xs ys backs more k = k
 dealt-within size (RunTests ns ∷ R) xs ys backs more k = dealt-within size R (xs ++ ns) (ys ++ ns) backs more (within-append xs ys ns k)
 dealt-within size (RunAll ∷ R) xs ys backs more k = dealt-within size R (xs ++ range_with_len 0 size) (ys ++ range_with_len 0 size) backs more (within-append xs ys (range_with_len 0 size) k)
@@ -65,7 +66,8 @@ new-within size xs ys ns k h = (let p = split-and (list_all (λ n. nat_lt n size
     one : (n : ℕ) → not (among n ys) ≡ true → not (among n xs) ≡ true
     one n a = elim (cases_of (among n xs)) [ inl b ↦ absurd (differ (sym (ap not (k n b)) ∙ a)) | inr b ↦ ap not b ]
 
-    each : (ms : List ℕ) → list_all (λ n. nat_lt n size && not (among n ys)) ms ≡ true → list_all (λ n. nat_lt n size && not (among n xs)) ms ≡ true
+    each : (ms : List ℕ) → list_all (λ n. nat_lt n size && not (among n ys)) ms ≡ true
+        → list_all (λ n. nat_lt n size && not (among n xs)) ms ≡ true
     each [] a = refl
     each (m ∷ ms) a =
         let p = split-and (nat_lt m size && not (among m ys)) (list_all (λ n. nat_lt n size && not (among n ys)) ms) a in
@@ -73,13 +75,16 @@ new-within size xs ys ns k h = (let p = split-and (list_all (λ n. nat_lt n size
         and (and q.0 (one m q.1)) (each ms p.1)
 
 -- the order is fair where it stands
-fair-at : (size : ℕ) (line : List ℕ) (R : List Order) (o : Order) (G : List Order) (backs : List (List ℕ)) → are_fair size line (R ++ o ∷ G) backs ≡ true → may_be_told size (line_given size line R backs) o (left_of R backs) ≡ true
+fair-at : (size : ℕ) (line : List ℕ) (R : List Order) (o : Order) (G : List Order) (backs : List (List ℕ))
+    → are_fair size line (R ++ o ∷ G) backs ≡ true
+    → may_be_told size (line_given size line R backs) o (left_of R backs) ≡ true
 fair-at size line [] o G backs h = (split-and (may_be_told size line o backs) (are_fair size (line_after size line o backs) G (answers_left o backs)) h).0
 fair-at size line (p ∷ R) o G backs h =
     fair-at size (line_after size line p backs) R o G (answers_left p backs) (split-and (may_be_told size line p backs) (are_fair size (line_after size line p backs) (R ++ o ∷ G) (answers_left p backs)) h).1
 
 -- two lists that begin one: the shorter begins the longer
-begins-both : (backs bs cs ds : List (List ℕ)) → backs ++ cs ≡ bs ++ ds → length backs ≤ length bs → IsFirstPart backs bs
+begins-both : (backs bs cs ds : List (List ℕ)) → backs ++ cs ≡ bs ++ ds → length backs ≤ length bs
+    → IsFirstPart backs bs
 begins-both [] bs cs ds e h = (bs, refl)
 begins-both (a ∷ backs) [] cs ds e h = absurd (omega (arith, h))
 begins-both (a ∷ backs) (b ∷ bs) cs ds e h =
@@ -96,7 +101,9 @@ longer (suc m) (suc n) = elim (longer m n) [ inl h ↦ inl (omega (arith, h)) | 
 
 module _ (size : ℕ) (all : List Order) (taken told : List (List ℕ)) (fair : are_fair size [] all taken ≡ true) (one : length (steals_asked all) ≤ length taken + 1) (begins : IsFirstPart taken told) where
   -- new where the controller sees it is new at the worker
-  new-there : (R : List Order) (backs later : List (List ℕ)) (ns : List ℕ) → told ≡ backs ++ later → length backs ≡ length (steals_asked R) → are_new size (line_given size [] R taken) ns ≡ true → are_new size (line_given size [] R backs) ns ≡ true
+  new-there : (R : List Order) (backs later : List (List ℕ)) (ns : List ℕ) → told ≡ backs ++ later
+      → length backs ≡ length (steals_asked R) → are_new size (line_given size [] R taken) ns ≡ true
+      → are_new size (line_given size [] R backs) ns ≡ true
   new-there R backs later ns e n h = elim (longer (length taken) (length backs)) [
     | inl k ↦ (let b = begins-both taken backs begins.0 later (sym begins.1 ∙ e) k in
         subst (λ (l : List (List ℕ)). are_new size (line_given size [] R l) ns ≡ true) (sym b.1)
@@ -106,14 +113,19 @@ module _ (size : ℕ) (all : List Order) (taken told : List (List ℕ)) (fair : 
   ]
 
   -- a steal is told only where each earlier one was answered
-  part-there : (R : List Order) (ns : List ℕ) (G : List Order) (backs later : List (List ℕ)) → all ≡ R ++ Steal ns ∷ G → told ≡ backs ++ later → length backs ≡ length (steals_asked R) → is_in_order ns (line_given size [] R taken) ≡ true
+  part-there : (R : List Order) (ns : List ℕ) (G : List Order) (backs later : List (List ℕ)) → all ≡ R ++ Steal ns ∷ G
+      → told ≡ backs ++ later → length backs ≡ length (steals_asked R)
+      → is_in_order ns (line_given size [] R taken) ≡ true
       → is_in_order ns (line_given size [] R backs) ≡ true
   part-there R ns G backs later split e n h =
-      let count : length (steals_asked all) ≡ length (steals_asked R) + suc (length (steals_asked G)) = ap (λ (l : List Order). length (steals_asked l)) split ∙ ap length (steals-append R (Steal ns ∷ G)) ∙ length-append (steals_asked R) (ns ∷ steals_asked G) in
+      let count : length (steals_asked all) ≡ length (steals_asked R) + suc (length (steals_asked G)) = ap (λ (l : List Order). length (steals_asked l)) split
+      ∙ ap length (steals-append R (Steal ns ∷ G)) ∙ length-append (steals_asked R) (ns ∷ steals_asked G) in
       let b = begins-both backs taken later begins.0 (sym e ∙ begins.1) (omega (arith, count, one, n)) in
       subst (λ (l : List ℕ). is_in_order ns l ≡ true) (ap (λ (l : List (List ℕ)). line_given size [] R l) b.1 ∙ dealt-enough size [] R backs b.0 n) h
 
-  may-there : (R : List Order) (o : Order) (G : List Order) (backs later : List (List ℕ)) → all ≡ R ++ o ∷ G → told ≡ backs ++ later → length backs ≡ length (steals_asked R) → may_be_told size (line_given size [] R taken) o (left_of R taken) ≡ true
+  may-there : (R : List Order) (o : Order) (G : List Order) (backs later : List (List ℕ)) → all ≡ R ++ o ∷ G
+      → told ≡ backs ++ later → length backs ≡ length (steals_asked R)
+      → may_be_told size (line_given size [] R taken) o (left_of R taken) ≡ true
       → MayTake size (line_given size [] R backs) o
   may-there R (RunTests ns) G backs later split e n h = new-there R backs later ns e n h
   may-there R RunAll G backs later split e n h = new-there R backs later (range_with_len 0 size) e n h

@@ -93,7 +93,8 @@ module _ (w : ℕ) (ns : List ℕ) (es : List Entry) (s : State) (h : is_orderly
       omega (arith, few, more)
 
   no-more : left_of (told_to w es) (answers_by w es) ≡ []
-  no-more = left-dropped (told_to w es) (answers_by w es) ∙ drop_of_length-le (answers_by w es) (let a = all-answered in omega (arith, a))
+  no-more = left-dropped (told_to w es) (answers_by w es)
+      ∙ drop_of_length-le (answers_by w es) (let a = all-answered in omega (arith, a))
 
   -- what is asked is a part of the line, in its order
   asked-part : is_in_order ns (line_at w s es) ≡ true
@@ -103,7 +104,8 @@ module _ (w : ℕ) (ns : List ℕ) (es : List Entry) (s : State) (h : is_orderly
       let slot = slot_of w s.books in
       let named = items_named slot ns s.plan in
       let e1 : named ≡ filter (λ y. among y named) (held w s.books.table) = (bytes_eq-Decides named (filter (λ y. among y named) (held w s.books.table))).0 asks.ordered in
-      let e2 : named ≡ items_named slot (filter (λ y. among y ns) (drop k line)) s.plan = e1 ∙ ap (filter (λ y. among y named)) d.held_is ∙ named-filter slot ns (drop k line) s.plan in
+      let e2 : named ≡ items_named slot (filter (λ y. among y ns) (drop k line)) s.plan = e1
+      ∙ ap (filter (λ y. among y named)) d.held_is ∙ named-filter slot ns (drop k line) s.plan in
       let e3 : ns ≡ filter (λ y. among y ns) (drop k line) = named-injective slot ns (filter (λ y. among y ns) (drop k line)) s.plan e2 in
       let distinct : all_distinct line ≡ true = distinct-fair (size_at w s) [] (told_to w es) (answers_by w es) refl d.fair in
       let none : filter (λ y. among y ns) (take k line) ≡ [] = none-filtered ns (take k line) (λ x a. elim (cases_of (among x ns)) [
@@ -111,15 +113,19 @@ module _ (w : ℕ) (ns : List ℕ) (es : List Entry) (s : State) (h : is_orderly
         | inr b ↦ b
       ]) in
       let e4 : filter (λ y. among y ns) line ≡ ns =
-      ap (filter (λ y. among y ns)) (sym (take-append-drop k line)) ∙ filter-append (λ y. among y ns) (take k line) (drop k line) ∙ ap (λ (l : List ℕ). l ++ filter (λ y. among y ns) (drop k line)) none ∙ sym e3 in
+      ap (filter (λ y. among y ns)) (sym (take-append-drop k line))
+      ∙ filter-append (λ y. among y ns) (take k line) (drop k line)
+      ∙ ap (λ (l : List ℕ). l ++ filter (λ y. among y ns) (drop k line)) none ∙ sym e3 in
       (bytes_eq-Decides ns (filter (λ y. among y ns) line)).1 (sym e4)
 
   line-then : line_given (size_at w s) [] (told_to w (es ++ e ∷ [])) (answers_by w (es ++ e ∷ [])) ≡ line_at w s es
   line-then =
       let size = size_at w s in
-      ap (λ (os : List Order). line_given size [] os (answers_by w (es ++ e ∷ []))) told-more ∙ ap (line_given size [] (told_to w es ++ order.Steal ns ∷ [])) answers-same
+      ap (λ (os : List Order). line_given size [] os (answers_by w (es ++ e ∷ []))) told-more
+      ∙ ap (line_given size [] (told_to w es ++ order.Steal ns ∷ [])) answers-same
       ∙ dealt-append size [] (told_to w es) (order.Steal ns ∷ []) (answers_by w es)
-      ∙ ap (λ (backs : List (List ℕ)). without (first_answer backs) (line_at w s es)) no-more ∙ without-none (line_at w s es)
+      ∙ ap (λ (backs : List (List ℕ)). without (first_answer backs) (line_at w s es)) no-more
+      ∙ without-none (line_at w s es)
 
   pub takes_steal : Deal w (after_effect s e) (es ++ e ∷ [])
   takes_steal =
@@ -130,19 +136,25 @@ module _ (w : ℕ) (ns : List ℕ) (es : List Entry) (s : State) (h : is_orderly
       let told : may_be_told size (line_at w s es) (order.Steal ns) (left_of (told_to w es) (answers_by w es)) ≡ true =
       and asked-part (ap (λ (backs : List (List ℕ)). is_answer ns (first_answer backs)) no-more) in
       let count : length (steals_asked (told_to w (es ++ e ∷ []))) ≡ length (steals_asked (told_to w es)) + 1 =
-      ap (λ (os : List Order). length (steals_asked os)) told-more ∙ ap length (steals-append (told_to w es) (order.Steal ns ∷ [])) ∙ length-append (steals_asked (told_to w es)) (ns ∷ []) in
+      ap (λ (os : List Order). length (steals_asked os)) told-more
+      ∙ ap length (steals-append (told_to w es) (order.Steal ns ∷ []))
+      ∙ length-append (steals_asked (told_to w es)) (ns ∷ []) in
       record {
         held_is = d.held_is ∙ ap (λ (l : List ℕ). items_named slot (drop (length (ends_by w es)) l) s.plan) (sym line-then)
             ∙ ap (λ (x : List ℕ). items_named slot (drop (length x) (line_at w (after_effect s e) (es ++ e ∷ []))) s.plan) (sym ended-same);
-        ended_first = ap (λ (x : List ℕ). take (length x) (line_at w (after_effect s e) (es ++ e ∷ []))) ended-same ∙ ap (take (length (ends_by w es))) line-then ∙ d.ended_first ∙ sym ended-same;
-        reported = ap (λ (l : List ℕ). all_among (items_named slot l s.plan) s.books.table.reported) ended-same ∙ d.reported;
-        fair = ap (λ (os : List Order). are_fair size [] os (answers_by w (es ++ e ∷ []))) told-more ∙ ap (are_fair size [] (told_to w es ++ order.Steal ns ∷ [])) answers-same
+        ended_first = ap (λ (x : List ℕ). take (length x) (line_at w (after_effect s e) (es ++ e ∷ []))) ended-same
+            ∙ ap (take (length (ends_by w es))) line-then ∙ d.ended_first ∙ sym ended-same;
+        reported = ap (λ (l : List ℕ). all_among (items_named slot l s.plan) s.books.table.reported) ended-same
+            ∙ d.reported;
+        fair = ap (λ (os : List Order). are_fair size [] os (answers_by w (es ++ e ∷ []))) told-more
+            ∙ ap (are_fair size [] (told_to w es ++ order.Steal ns ∷ [])) answers-same
             ∙ fair-more size [] (told_to w es) (order.Steal ns) (answers_by w es) d.fair told;
         last = ap marks_last told-more ∙ marks-more (told_to w es) (order.Steal ns) unshut;
         marks = d.marks ∙ sym (ap (list_any is_shutdown) told-more ∙ shut-same (told_to w es) (order.Steal ns) refl);
         open_steal = ap (λ (b : Bool). if b then ns ∷ [] else []) own
             ∙ sym (ap (λ (l : List (List ℕ)). drop (length l) (steals_asked (told_to w (es ++ e ∷ [])))) answers-same ∙ ap (λ (os : List Order). drop (length (answers_by w es)) (steals_asked os)) told-more
-            ∙ ap (drop (length (answers_by w es))) (steals-append (told_to w es) (order.Steal ns ∷ [])) ∙ dropped-last (length (answers_by w es)) (steals_asked (told_to w es)) ns (sym all-answered));
+            ∙ ap (drop (length (answers_by w es))) (steals-append (told_to w es) (order.Steal ns ∷ []))
+            ∙ dropped-last (length (answers_by w es)) (steals_asked (told_to w es)) ns (sym all-answered));
         answered = (let a : length (answers_by w (es ++ e ∷ [])) ≡ length (answers_by w es) = ap length answers-same in let b = all-answered in omega (arith, a, b, count));
         early = λ r. absurd (differ (sym r ∙ asks.rota));
         unshared = λ r. absurd (nothing ns asks.filled (ap (λ (hs : List ℕ). all_among ns (drop 2 hs)) (sym (quiet-deal w s es d (d.unshared r)).held) ∙ asks.later));

@@ -26,7 +26,8 @@ split-both (b ∷ before) n after (p ∷ pre) post e =
       | inr k ↦ inr (k.0, ap (λ (q : News). q ∷ pre) (sym same) ∙ ap (λ (l : List News). b ∷ l) k.1)
     ]
 
-pub later-begun : (settings : Settings) (pre post : List News) (w : ℕ) → IsProper settings [] → has_member w (λ m. true) (run_of settings pre).state.books ≡ true
+pub later-begun : (settings : Settings) (pre post : List News) (w : ℕ) → IsProper settings []
+    → has_member w (λ m. true) (run_of settings pre).state.books ≡ true
     → said_by w pre ≡ [] → AfterStart settings (pre ++ post) w
 later-begun settings pre post w proper begun silent before n after e own = elim (split-both before n after pre post (sym e)) [
   | inl k ↦ subst (λ (l : List News). has_member w (λ m. true) (run_of settings l).state.books ≡ true) (sym k.1)

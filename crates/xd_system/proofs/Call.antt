@@ -26,13 +26,15 @@ mark_of orders = if list_any is_shutdown orders then Mark ∷ [] else []
 -- the log of the running test is open, and has its number; where none runs no log is open, and all have lower
 -- numbers
 pub record LogIs (c : FunctionCall) (ended : List ℕ) (log : Option Log) : Type 0 where
-  pub opened : c.running ≡ true → (any_open log ≡ true) × ((n : ℕ) × (head_test (left c) ≡ Some n) × (is_of n log ≡ true)) × (number_of log ≡ number_of_log c.ended)
+  pub opened : c.running ≡ true
+      → (any_open log ≡ true) × ((n : ℕ) × (head_test (left c) ≡ Some n) × (is_of n log ≡ true)) × (number_of log ≡ number_of_log c.ended)
   pub closed : c.running ≡ false → (any_open log ≡ false) × (number_of log < number_of_log c.ended)
   pub earlier : c.running ≡ false → (n : ℕ) → is_of n log ≡ true → among n ended ≡ true
 
 -- each piece of news may come where it stands
 abbrev pub AllFit : ℕ → List Order → List What → Type 0
-AllFit size orders news = (before : List What) (x : What) (after : List What) → news ≡ before ++ x ∷ after → FitsNext size orders before x
+AllFit size orders news = (before : List What) (x : What) (after : List What) → news ≡ before ++ x ∷ after
+    → FitsNext size orders before x
 
 -- so it may, whatever further orders are on the way
 abbrev pub FitAll : ℕ → List Order → List What → Type 0
@@ -91,9 +93,12 @@ pub record IsOverTurn (size : ℕ) (orders : List Order) (before : List What) (t
   pub said : list_any is_last_told (before ++ news_of_asks t.asks) ≡ true
   pub left_none : tests_in_line (left t.call) ≡ []
   pub passed_is : take t.call.ended t.call.line ≡ map Test (ends_in (before ++ news_of_asks t.asks))
-  pub all_ended : list_any is_collected (before ++ news_of_asks t.asks) ≡ true → EndedAll size orders (before ++ news_of_asks t.asks)
-  pub finishes : list_any is_collected (before ++ news_of_asks t.asks) ≡ true → Finishes (before ++ news_of_asks t.asks)
-  pub none_ended : list_any is_collected (before ++ news_of_asks t.asks) ≡ false → ends_in (before ++ news_of_asks t.asks) ≡ []
+  pub all_ended : list_any is_collected (before ++ news_of_asks t.asks) ≡ true
+      → EndedAll size orders (before ++ news_of_asks t.asks)
+  pub finishes : list_any is_collected (before ++ news_of_asks t.asks) ≡ true
+      → Finishes (before ++ news_of_asks t.asks)
+  pub none_ended : list_any is_collected (before ++ news_of_asks t.asks) ≡ false
+      → ends_in (before ++ news_of_asks t.asks) ≡ []
   pub fit : FitAll size orders (before ++ news_of_asks t.asks)
 
 -- one of the two

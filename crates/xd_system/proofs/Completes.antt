@@ -29,19 +29,24 @@ use Rattle.xd_system.proofs.Named.{item_at, named-first, named-none, named-appen
 
 -- the head of what is held
 
-head-is : (hs : List ℕ) (x : ℕ) → (elim hs as (λ _. Bool) [ [] ↦ false | t ∷ ts ↦ x == t ]) ≡ true → (rest : List ℕ) × (hs ≡ x ∷ rest)
+head-is : (hs : List ℕ) (x : ℕ) → (elim hs as (λ _. Bool) [ [] ↦ false | t ∷ ts ↦ x == t ]) ≡ true
+    → (rest : List ℕ) × (hs ≡ x ∷ rest)
 head-is [] x h = absurd (differ h)
 head-is (t ∷ ts) x h = (ts, (let e : x ≡ t = grind (arith, nat_tests, h) in ap (λ (y : ℕ). y ∷ ts) (sym e)))
 
-pub names-item : (s : State) (w n : ℕ) → names_head w n s ≡ true → is_head w (item_at (slot_of w s.books) n s.plan) s ≡ true
+pub names-item : (s : State) (w n : ℕ) → names_head w n s ≡ true
+    → is_head w (item_at (slot_of w s.books) n s.plan) s ≡ true
 names-item s w n h =
     let one : items_named (slot_of w s.books) (n ∷ []) s.plan ≡ item_at (slot_of w s.books) n s.plan ∷ [] =
-    named-first (slot_of w s.books) n [] s.plan ∙ ap (λ (l : List ℕ). item_at (slot_of w s.books) n s.plan ∷ l) (named-none (slot_of w s.books) s.plan) in
-    sym (or-false (is_head w (item_at (slot_of w s.books) n s.plan) s)) ∙ ap (λ (l : List ℕ). list_any (λ x. is_head w x s) l) (sym one) ∙ h
+    named-first (slot_of w s.books) n [] s.plan
+    ∙ ap (λ (l : List ℕ). item_at (slot_of w s.books) n s.plan ∷ l) (named-none (slot_of w s.books) s.plan) in
+    sym (or-false (is_head w (item_at (slot_of w s.books) n s.plan) s))
+    ∙ ap (λ (l : List ℕ). list_any (λ x. is_head w x s) l) (sym one) ∙ h
 
 -- the table
 
-pub held-completed : (w item : ℕ) (ss : List Seat) → held_in w (at_seat w (λ s. record s { held = without (item ∷ []) s.held }) ss) ≡ without (item ∷ []) (held_in w ss)
+pub held-completed : (w item : ℕ) (ss : List Seat)
+    → held_in w (at_seat w (λ s. record s { held = without (item ∷ []) s.held }) ss) ≡ without (item ∷ []) (held_in w ss)
 held-completed w item [] = refl
 held-completed w item (s ∷ ss) = grind (arith, nat_tests, held-completed w item ss)
 
@@ -66,7 +71,8 @@ module _ (w n : ℕ) (outcome : Outcome) (ms : ℕ) (output : List ℕ) (es : Li
       let one : ends_by w (e ∷ []) ≡ n ∷ [] = rw own refl in
       filter_map-append (test_ended_in w) es (e ∷ []) ∙ ap (λ (l : List ℕ). ends_by w es ++ l) one
 
-  pub takes_end : (s : State) → Placed s → may_follow s e ≡ true → Deal w s es → Deal w (after_effect s e) (es ++ e ∷ [])
+  pub takes_end : (s : State) → Placed s → may_follow s e ≡ true → Deal w s es
+      → Deal w (after_effect s e) (es ++ e ∷ [])
   takes_end s placed h d =
       let slot = slot_of w s.books in
       let t = s.books.table in
@@ -76,17 +82,22 @@ module _ (w n : ℕ) (outcome : Outcome) (ms : ℕ) (output : List ℕ) (es : Li
       let named = (split-and (is_active w s.books) (names_head w n s) h).1 in
       let head = head-is (held w t) item (names-item s w n named) in
       let part = named-head slot n (drop k line) head.0 s.plan (sym d.held_is ∙ head.1) in
-      let one : items_named slot (n ∷ []) s.plan ≡ item ∷ [] = named-first slot n [] s.plan ∙ ap (λ (l : List ℕ). item ∷ l) (named-none slot s.plan) in
+      let one : items_named slot (n ∷ []) s.plan ≡ item ∷ [] = named-first slot n [] s.plan
+      ∙ ap (λ (l : List ℕ). item ∷ l) (named-none slot s.plan) in
       let table : (after_effect s e).books.table ≡ completed w item t = ap (λ (l : List ℕ). completed_first w l t) one in
-      let count : length (ends_by w (es ++ e ∷ [])) ≡ k + 1 = ap length ended-more ∙ length-append (ends_by w es) (n ∷ []) in
+      let count : length (ends_by w (es ++ e ∷ [])) ≡ k + 1 = ap length ended-more
+      ∙ length-append (ends_by w es) (n ∷ []) in
       let line_same : line_at w (after_effect s e) (es ++ e ∷ []) ≡ line = rw (told-same, answers-same) refl in
       let rest : without (item ∷ []) (held w t) ≡ head.0 =
-      ap (λ (l : List ℕ). without (item ∷ []) l) head.1 ∙ without-first item head.0 (ap all_distinct (sym head.1) ∙ held-distinct s w placed) in
+      ap (λ (l : List ℕ). without (item ∷ []) l) head.1
+      ∙ without-first item head.0 (ap all_distinct (sym head.1) ∙ held-distinct s w placed) in
       record {
         held_is = ap (λ (u : Table). held w u) table ∙ held-completed w item t.rota ∙ rest ∙ part.2
-            ∙ ap (λ (l : List ℕ). items_named slot l s.plan) (sym (drop-next k n line part.0 part.1)) ∙ ap (λ (j : ℕ). items_named slot (drop j line) s.plan) (sym count)
+            ∙ ap (λ (l : List ℕ). items_named slot l s.plan) (sym (drop-next k n line part.0 part.1))
+            ∙ ap (λ (j : ℕ). items_named slot (drop j line) s.plan) (sym count)
             ∙ ap (λ (l : List ℕ). items_named slot (drop (length (ends_by w (es ++ e ∷ []))) l) s.plan) (sym line_same);
-        ended_first = ap (λ (l : List ℕ). take (length (ends_by w (es ++ e ∷ []))) l) line_same ∙ ap (λ (j : ℕ). take j line) count ∙ take-next k n line part.0 part.1
+        ended_first = ap (λ (l : List ℕ). take (length (ends_by w (es ++ e ∷ []))) l) line_same
+            ∙ ap (λ (j : ℕ). take j line) count ∙ take-next k n line part.0 part.1
             ∙ ap (λ (l : List ℕ). l ++ n ∷ []) d.ended_first ∙ sym ended-more;
         reported = ap (λ (u : Table). all_among (items_named slot (ends_by w (es ++ e ∷ [])) s.plan) u.reported) table
             ∙ ap (λ (l : List ℕ). all_among (items_named slot l s.plan) (t.reported ++ item ∷ [])) ended-more

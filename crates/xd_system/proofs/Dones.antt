@@ -32,10 +32,12 @@ abbrev dones_of : List Ask → List (ℕ × Outcome)
 dones_of asks = outcomes_in (news_of_asks asks)
 
 dones-append : (xs ys : List Ask) → dones_of (xs ++ ys) ≡ dones_of xs ++ dones_of ys
-dones-append xs ys = ap outcomes_in (asks-append xs ys) ∙ filter_map-append outcome_of_news (news_of_asks xs) (news_of_asks ys)
+dones-append xs ys = ap outcomes_in (asks-append xs ys)
+    ∙ filter_map-append outcome_of_news (news_of_asks xs) (news_of_asks ys)
 
 grown-dones : (t u : CallTurn) → Grows t u → dones_of u.asks ≡ dones_of t.asks
-grown-dones t u g = ap dones_of g.1 ∙ dones-append t.asks g.0 ∙ ap (λ (l : List (ℕ × Outcome)). dones_of t.asks ++ l) g.2 ∙ append-nil (dones_of t.asks)
+grown-dones t u g = ap dones_of g.1 ∙ dones-append t.asks g.0
+    ∙ ap (λ (l : List (ℕ × Outcome)). dones_of t.asks ++ l) g.2 ∙ append-nil (dones_of t.asks)
 
 piece-dones : (log : ℕ) (bytes : List ℕ) → dones_of (piece_asks log bytes) ≡ []
 piece-dones log [] = refl
@@ -55,9 +57,11 @@ plain-outcome None o = refl
 plain-outcome (Some n) o = refl
 
 -- of a call that serves
-serving-dones : (t : CallTurn) (r : Option ℕ) (i : Input) → t.asks ≡ [] → comes_in_run i ≡ true → dones_of (answered_in Serving r true i t).asks ≡ outcome_at_end r i
+serving-dones : (t : CallTurn) (r : Option ℕ) (i : Input) → t.asks ≡ [] → comes_in_run i ≡ true
+    → dones_of (answered_in Serving r true i t).asks ≡ outcome_at_end r i
 serving-dones t r (input.Command None) e h = absurd (differ h)
-serving-dones t r (input.Command (Some o)) e h = grown-dones t (told true (Some o) t) (grows-told true (Some o) t) ∙ ap dones_of e ∙ sym (plain-outcome r (Some o))
+serving-dones t r (input.Command (Some o)) e h = grown-dones t (told true (Some o) t) (grows-told true (Some o) t)
+    ∙ ap dones_of e ∙ sym (plain-outcome r (Some o))
 serving-dones t r input.ReceivingEnded e h = absurd (differ h)
 serving-dones t None (input.Suite ids) e h = ap dones_of e
 serving-dones t (Some n) (input.Suite ids) e h = ap dones_of e
@@ -67,11 +71,13 @@ serving-dones t None (input.Output bytes) e h = ap dones_of e
 serving-dones t (Some n) (input.Output bytes) e h =
     let cut : List ℕ = take (most_of_one - t.call.sent) bytes in
     let log = number_of_log t.call.ended in
-    dones-append t.asks (piece_asks log cut) ∙ ap (λ (l : List Ask). dones_of l ++ dones_of (piece_asks log cut)) e ∙ piece-dones log cut
+    dones-append t.asks (piece_asks log cut) ∙ ap (λ (l : List Ask). dones_of l ++ dones_of (piece_asks log cut)) e
+    ∙ piece-dones log cut
 serving-dones t None (input.Done outcome ms) e h = ap dones_of e
 serving-dones t (Some n) (input.Done outcome ms) e h =
     let u = told_done n outcome ms t in
-    grown-dones u (line_settled true u) (grows-settled true u) ∙ ap (λ (l : List Ask). dones_of (l ++ CloseLog (number_of_log t.call.ended) ∷ Tell (what.Done n outcome ms) ∷ [])) e
+    grown-dones u (line_settled true u) (grows-settled true u)
+    ∙ ap (λ (l : List Ask). dones_of (l ++ CloseLog (number_of_log t.call.ended) ∷ Tell (what.Done n outcome ms) ∷ [])) e
 serving-dones t r input.Stop e h = absurd (differ h)
 
 -- of a call that waits for its suite
@@ -86,7 +92,8 @@ awaiting-dones R (input.Done outcome ms) h = refl
 awaiting-dones R input.Stop h = absurd (differ h)
 
 -- of a call that is over
-over-dones : (t : CallTurn) (i : Input) → t.asks ≡ [] → comes_in_run i ≡ true → dones_of (answered_in Over None true i t).asks ≡ []
+over-dones : (t : CallTurn) (i : Input) → t.asks ≡ [] → comes_in_run i ≡ true
+    → dones_of (answered_in Over None true i t).asks ≡ []
 over-dones t (input.Command None) e h = absurd (differ h)
 over-dones t (input.Command (Some o)) e h = ap dones_of e
 over-dones t input.ReceivingEnded e h = absurd (differ h)
@@ -100,31 +107,40 @@ idle-none : (c : FunctionCall) → c.running ≡ false → running_test c ≡ No
 idle-none c h = rw h refl
 
 module _ (size : ℕ) where
-  turn-dones : (g : Given) (gs : List Given) → is_of_run g ≡ true → CallIs size gs → dones_of (turn_after gs g).asks ≡ outcome_at_end (running_test (call_after gs)) g.input
+  turn-dones : (g : Given) (gs : List Given) → is_of_run g ≡ true → CallIs size gs
+      → dones_of (turn_after gs g).asks ≡ outcome_at_end (running_test (call_after gs)) g.input
   turn-dones g gs h (inl k) =
       let p = split-and g.room (comes_in_run g.input) h in
       ap (λ (c : FunctionCall). dones_of (answered_in c.phase (running_test c) g.room g.input (call_turn_of c)).asks) k.call_is
       ∙ ap (λ (b : Bool). dones_of (answered_in Awaiting None b g.input (call_turn_of (waits_with (orders_of gs)))).asks) p.0
-      ∙ awaiting-dones (orders_of gs) g.input p.1 ∙ sym (ap (λ (c : FunctionCall). outcome_at_end (running_test c) g.input) k.call_is ∙ no-outcome g.input)
+      ∙ awaiting-dones (orders_of gs) g.input p.1
+      ∙ sym (ap (λ (c : FunctionCall). outcome_at_end (running_test c) g.input) k.call_is ∙ no-outcome g.input)
   turn-dones g gs h (inr (inl k)) =
       let p = split-and g.room (comes_in_run g.input) h in
       let c = call_after gs in
-      ap (λ (q : Phase). dones_of (answered_in q (running_test c) g.room g.input (call_turn_of c)).asks) k.is.phase ∙ ap (λ (b : Bool). dones_of (answered_in Serving (running_test c) b g.input (call_turn_of c)).asks) p.0
+      ap (λ (q : Phase). dones_of (answered_in q (running_test c) g.room g.input (call_turn_of c)).asks) k.is.phase
+      ∙ ap (λ (b : Bool). dones_of (answered_in Serving (running_test c) b g.input (call_turn_of c)).asks) p.0
       ∙ serving-dones (call_turn_of c) (running_test c) g.input refl p.1
   turn-dones g gs h (inr (inr k)) =
       let p = split-and g.room (comes_in_run g.input) h in
       let c = call_after gs in
       let none = idle-none c k.idle in
-      ap (λ (q : Phase). dones_of (answered_in q (running_test c) g.room g.input (call_turn_of c)).asks) k.phase ∙ ap (λ (b : Bool). dones_of (answered_in Over (running_test c) b g.input (call_turn_of c)).asks) p.0
-      ∙ ap (λ (r : Option ℕ). dones_of (answered_in Over r true g.input (call_turn_of c)).asks) none ∙ over-dones (call_turn_of c) g.input refl p.1
+      ap (λ (q : Phase). dones_of (answered_in q (running_test c) g.room g.input (call_turn_of c)).asks) k.phase
+      ∙ ap (λ (b : Bool). dones_of (answered_in Over (running_test c) b g.input (call_turn_of c)).asks) p.0
+      ∙ ap (λ (r : Option ℕ). dones_of (answered_in Over r true g.input (call_turn_of c)).asks) none
+      ∙ over-dones (call_turn_of c) g.input refl p.1
       ∙ sym (ap (λ (r : Option ℕ). outcome_at_end r g.input) none ∙ no-outcome g.input)
 
-  pub told-dones : (gs : List Given) → list_all is_of_run gs ≡ true → ((before later : List Given) → gs ≡ later ++ before → CallIs size before) → outcomes_in (tells gs) ≡ outcomes gs
+  pub told-dones : (gs : List Given) → list_all is_of_run gs ≡ true
+      → ((before later : List Given) → gs ≡ later ++ before → CallIs size before)
+      → outcomes_in (tells gs) ≡ outcomes gs
   told-dones [] h k = refl
   told-dones (g ∷ gs) h k =
       let p = split-and (is_of_run g) (list_all is_of_run gs) h in
       let rest = told-dones gs p.1 (λ before later e. k before (g ∷ later) (ap (λ (l : List Given). g ∷ l) e)) in
-      dones-append (all_asks gs) (turn_after gs g).asks ∙ ap (λ (l : List (ℕ × Outcome)). l ++ dones_of (turn_after gs g).asks) rest ∙ ap (λ (l : List (ℕ × Outcome)). outcomes gs ++ l) (turn-dones g gs p.0 (k gs (g ∷ []) refl))
+      dones-append (all_asks gs) (turn_after gs g).asks
+      ∙ ap (λ (l : List (ℕ × Outcome)). l ++ dones_of (turn_after gs g).asks) rest
+      ∙ ap (λ (l : List (ℕ × Outcome)). outcomes gs ++ l) (turn-dones g gs p.0 (k gs (g ∷ []) refl))
 
 -- a worker that is done started the tests that ended
 
@@ -136,7 +152,9 @@ pub started-ended : (size : ℕ) (gs : List Given) → IsDone size gs → starte
 started-ended size gs k =
     let c = call_after gs in
     let e : c.ended + 0 ≡ c.ended = omega arith in
-    started_first gs ∙ ap (λ (b : Bool). tests_in_line (take (c.ended + (if b then 1 else 0)) c.line)) k.idle ∙ ap (λ (i : ℕ). tests_in_line (take i c.line)) e ∙ ap tests_in_line k.passed_is ∙ tests-mapped (ends_in (tells gs))
+    started_first gs ∙ ap (λ (b : Bool). tests_in_line (take (c.ended + (if b then 1 else 0)) c.line)) k.idle
+    ∙ ap (λ (i : ℕ). tests_in_line (take i c.line)) e ∙ ap tests_in_line k.passed_is
+    ∙ tests-mapped (ends_in (tells gs))
 
 -- the tests that ended are those of the outcomes
 pub ended-dones : (news : List What) → map (λ (p : ℕ × Outcome). p.0) (outcomes_in news) ≡ ends_in news

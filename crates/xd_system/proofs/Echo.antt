@@ -38,14 +38,22 @@ pub record Echo (w : ℕ) (es : List Entry) (news : List What) : Type 0 where
   pub dones : outcomes_in news ≡ outcomes_by w es
   pub unaccused : is_accused w es ≡ false
 
-pub echo-more : (w : ℕ) (es fs : List Entry) (news more : List What) → Echo w es news → Echo w fs more → Echo w (es ++ fs) (news ++ more)
+pub echo-more : (w : ℕ) (es fs : List Entry) (news more : List What) → Echo w es news → Echo w fs more
+    → Echo w (es ++ fs) (news ++ more)
 echo-more w es fs news more a b = record {
-  answers = filter_map-append answer_of_news news more ∙ ap (λ (l : List (List ℕ)). l ++ answers_in more) a.answers ∙ ap (λ (l : List (List ℕ)). answers_by w es ++ l) b.answers ∙ sym (filter_map-append (answer_in w) es fs);
-  ended = filter_map-append end_of_news news more ∙ ap (λ (l : List ℕ). l ++ ends_in more) a.ended ∙ ap (λ (l : List ℕ). ends_by w es ++ l) b.ended ∙ sym (filter_map-append (test_ended_in w) es fs);
-  ready = list_any-append is_ready_news news more ∙ ap (λ (q : Bool). q || list_any is_ready_news more) a.ready ∙ ap (λ (q : Bool). list_any (is_ready_of w) es || q) b.ready ∙ sym (list_any-append (is_ready_of w) es fs);
-  collected = list_any-append is_collected news more ∙ ap (λ (q : Bool). q || list_any is_collected more) a.collected ∙ ap (λ (q : Bool). list_any (is_collected_of w) es || q) b.collected ∙ sym (list_any-append (is_collected_of w) es fs);
-  dones = filter_map-append outcome_of_news news more ∙ ap (λ (l : List (ℕ × Outcome)). l ++ outcomes_in more) a.dones ∙ ap (λ (l : List (ℕ × Outcome)). outcomes_by w es ++ l) b.dones ∙ sym (filter_map-append (outcome_in w) es fs);
-  unaccused = list_any-append (is_breach_of w) es fs ∙ ap (λ (q : Bool). q || is_accused w fs) a.unaccused ∙ b.unaccused;
+  answers = filter_map-append answer_of_news news more ∙ ap (λ (l : List (List ℕ)). l ++ answers_in more) a.answers
+      ∙ ap (λ (l : List (List ℕ)). answers_by w es ++ l) b.answers ∙ sym (filter_map-append (answer_in w) es fs);
+  ended = filter_map-append end_of_news news more ∙ ap (λ (l : List ℕ). l ++ ends_in more) a.ended
+      ∙ ap (λ (l : List ℕ). ends_by w es ++ l) b.ended ∙ sym (filter_map-append (test_ended_in w) es fs);
+  ready = list_any-append is_ready_news news more ∙ ap (λ (q : Bool). q || list_any is_ready_news more) a.ready
+      ∙ ap (λ (q : Bool). list_any (is_ready_of w) es || q) b.ready ∙ sym (list_any-append (is_ready_of w) es fs);
+  collected = list_any-append is_collected news more ∙ ap (λ (q : Bool). q || list_any is_collected more) a.collected
+      ∙ ap (λ (q : Bool). list_any (is_collected_of w) es || q) b.collected
+      ∙ sym (list_any-append (is_collected_of w) es fs);
+  dones = filter_map-append outcome_of_news news more ∙ ap (λ (l : List (ℕ × Outcome)). l ++ outcomes_in more) a.dones
+      ∙ ap (λ (l : List (ℕ × Outcome)). outcomes_by w es ++ l) b.dones ∙ sym (filter_map-append (outcome_in w) es fs);
+  unaccused = list_any-append (is_breach_of w) es fs ∙ ap (λ (q : Bool). q || is_accused w fs) a.unaccused
+      ∙ b.unaccused;
 }
 
 pub echo-none : (w : ℕ) → Echo w [] []
@@ -85,12 +93,16 @@ module _ (v : ℕ) (log : Option Log) (spent : ℕ) (s : State) (P : Option Entr
   by-silent : (fine : Bool) → P (silent_or_breach fine v log spent s)
   by-silent fine = in_both P fine None (Some (breach v log spent s)) (λ k. none) (λ k. down Breach (kept_at_death v log spent s))
 
-  pub meaning-elim : P (Some (Ready v)) → ((g : Ids) → P (Some (Collected v g))) → ((n : ℕ) (o : Outcome) (ms : ℕ) (b : List ℕ) → P (Some (Done v n o ms b))) → ((ns : List ℕ) → P (Some (Back v ns)))
-      → P (Some (Finished v)) → ((text : List ℕ) → P (Some (Refused v text))) → P (Some (NotStarted v)) → (x : What) → P (meaning_of v log spent s x)
+  pub meaning-elim : P (Some (Ready v)) → ((g : Ids) → P (Some (Collected v g)))
+      → ((n : ℕ) (o : Outcome) (ms : ℕ) (b : List ℕ) → P (Some (Done v n o ms b)))
+      → ((ns : List ℕ) → P (Some (Back v ns)))
+      → P (Some (Finished v)) → ((text : List ℕ) → P (Some (Refused v text))) → P (Some (NotStarted v)) → (x : What)
+      → P (meaning_of v log spent s x)
   meaning-elim a b c d e f g what.Ready = by-or (Ready v) a
   meaning-elim a b c d e f g (what.Collected own) = go (listed v s.books)
     where
-      go : (o : Option Listed) → P (or_breach v log spent s (elim o as (λ _. Entry) [ None ↦ Collected v (ids.List own) | Some l ↦ (if is_none (differ_at l.ids own) then Collected v ids.Same else Collected v (ids.List own)) ]))
+      go : (o : Option Listed)
+          → P (or_breach v log spent s (elim o as (λ _. Entry) [ None ↦ Collected v (ids.List own) | Some l ↦ (if is_none (differ_at l.ids own) then Collected v ids.Same else Collected v (ids.List own)) ]))
       go None = by-or (Collected v (ids.List own)) (b (ids.List own))
       go (Some l) = same (is_none (differ_at l.ids own))
         where
@@ -117,7 +129,8 @@ entry_of None = []
 entry_of (Some e) = e ∷ []
 
 -- of another worker it says nothing
-pub other-echo : (w v : ℕ) (log : Option Log) (spent : ℕ) (s : State) (x : What) → (v == w) ≡ false → Echo w (entry_of (meaning_of v log spent s x)) []
+pub other-echo : (w v : ℕ) (log : Option Log) (spent : ℕ) (s : State) (x : What) → (v == w) ≡ false
+    → Echo w (entry_of (meaning_of v log spent s x)) []
 other-echo w v log spent s x h = meaning-elim v log spent s (λ o. Echo w (entry_of o) []) (echo-none w) (λ c b. record { answers = refl; ended = refl; ready = refl; collected = refl; dones = refl; unaccused = down c b })
     (record { answers = refl; ended = refl; ready = rw h refl; collected = refl; dones = refl; unaccused = refl })
     (λ g. record { answers = refl; ended = refl; ready = refl; collected = rw h refl; dones = refl; unaccused = refl })

@@ -75,11 +75,13 @@ one-of (Some l) m n h k = grind (arith, nat_tests, h, k)
 runs-test : (c : FunctionCall) (n : ℕ) → running_test c ≡ Some n → (c.running ≡ true) × (head_test (left c) ≡ Some n)
 runs-test c n h = go c.running refl h
   where
-    go : (b : Bool) → c.running ≡ b → (if b then head_test (left c) else None) ≡ Some n → (c.running ≡ true) × (head_test (left c) ≡ Some n)
+    go : (b : Bool) → c.running ≡ b → (if b then head_test (left c) else None) ≡ Some n
+        → (c.running ≡ true) × (head_test (left c) ≡ Some n)
     go true e k = (e, k)
     go false e k = absurd cc
 
-head-row : (ps : List ℕ) (shut : Bool) (n : ℕ) → head_test (map Test ps ++ (if shut then Mark ∷ [] else [])) ≡ Some n → (rest : List ℕ) × (ps ≡ n ∷ rest)
+head-row : (ps : List ℕ) (shut : Bool) (n : ℕ) → head_test (map Test ps ++ (if shut then Mark ∷ [] else [])) ≡ Some n
+    → (rest : List ℕ) × (ps ≡ n ∷ rest)
 head-row [] true n h = absurd cc
 head-row [] false n h = absurd cc
 head-row (x ∷ ps) shut n h = (ps, (let e : x ≡ n = cc in ap (λ (y : ℕ). y ∷ ps) e))
@@ -103,7 +105,9 @@ module _ (size : ℕ) (orders : List Order) (news : List What) (c : FunctionCall
       let k = length (ends_in news) in
       let within : k ≤ length row = count-taken k row (ap length s.ended_first) in
       let left_is : left c ≡ map Test (drop k row) ++ mark_of orders =
-      ap (λ (l : List LineEntry). drop c.ended l) s.line_is ∙ ap (λ (i : ℕ). drop i (map Test row ++ mark_of orders)) s.ended_is ∙ drop-mapped k row (mark_of orders) within in
+      ap (λ (l : List LineEntry). drop c.ended l) s.line_is
+      ∙ ap (λ (i : ℕ). drop i (map Test row ++ mark_of orders)) s.ended_is
+      ∙ drop-mapped k row (mark_of orders) within in
       head-row (drop k row) (list_any is_shutdown orders) n (ap head_test (sym left_is) ∙ (runs-test c n runs).1)
 
   pub is-open : is_open_log log (log_of news) ≡ true
@@ -113,10 +117,12 @@ module _ (size : ℕ) (orders : List Order) (news : List What) (c : FunctionCall
   is-logged = (let o = s.log_is.opened (runs-test c n runs).0 in subst (λ (m : ℕ). is_of m (log_of news) ≡ true) (same-some o.1.0 n (sym o.1.1 ∙ (runs-test c n runs).1)) o.1.2)
 
   -- output leaves all but how much was sent
-  pub printed : (bytes : List ℕ) (sent : ℕ) (news2 : List What) → news2 ≡ news ++ what.Piece log bytes ∷ [] → IsServing size orders news2 (record c { sent = sent })
+  pub printed : (bytes : List ℕ) (sent : ℕ) (news2 : List What) → news2 ≡ news ++ what.Piece log bytes ∷ []
+      → IsServing size orders news2 (record c { sent = sent })
   printed bytes sent news2 e =
       let x = what.Piece log bytes in
-      let answers : answers_in news2 ≡ answers_in news = ap answers_in e ∙ answers-more news x ∙ append-nil (answers_in news) in
+      let answers : answers_in news2 ≡ answers_in news = ap answers_in e ∙ answers-more news x
+      ∙ append-nil (answers_in news) in
       let ended : ends_in news2 ≡ ends_in news = ap ends_in e ∙ ended-more news x ∙ append-nil (ends_in news) in
       let logged : log_of news2 ≡ with_news (log_of news) x = ap log_of e ∙ log-more news x in
       record {
@@ -125,9 +131,12 @@ module _ (size : ℕ) (orders : List Order) (news : List What) (c : FunctionCall
         line_is = s.line_is ∙ ap (λ (a : List (List ℕ)). map Test (line_given size [] orders a) ++ mark_of orders) (sym answers);
         answered = ap length answers ∙ s.answered;
         ended_is = s.ended_is ∙ ap length (sym ended);
-        ended_first = ap (λ (z : List ℕ). take (length z) (line_given size [] orders (answers_in news2))) ended ∙ ap (λ (a : List (List ℕ)). take (length (ends_in news)) (line_given size [] orders a)) answers ∙ s.ended_first ∙ sym ended;
+        ended_first = ap (λ (z : List ℕ). take (length z) (line_given size [] orders (answers_in news2))) ended
+            ∙ ap (λ (a : List (List ℕ)). take (length (ends_in news)) (line_given size [] orders a)) answers
+            ∙ s.ended_first ∙ sym ended;
         distinct = ap (λ (a : List (List ℕ)). all_distinct (line_given size [] orders a)) answers ∙ s.distinct;
-        within = ap (λ (a : List (List ℕ)). list_all (λ z. nat_lt z size) (line_given size [] orders a)) answers ∙ s.within;
+        within = ap (λ (a : List (List ℕ)). list_all (λ z. nat_lt z size) (line_given size [] orders a)) answers
+            ∙ s.within;
         log_is = record {
           opened = λ r. (let o = s.log_is.opened r in (ap any_open logged ∙ piece-open (log_of news) log bytes ∙ o.0, (o.1.0, o.1.1, ap (is_of o.1.0) logged ∙ piece-of o.1.0 (log_of news) log bytes ∙ o.1.2), ap number_of logged ∙ piece-number (log_of news) log bytes ∙ o.2));
           closed = λ r. (let o = s.log_is.closed r in (ap any_open logged ∙ piece-open (log_of news) log bytes ∙ o.0, subst (λ (i : ℕ). i < log) (sym (ap number_of logged ∙ piece-number (log_of news) log bytes)) o.1));
@@ -153,30 +162,40 @@ module _ (size : ℕ) (orders : List Order) (news : List What) (c : FunctionCall
 
     pub ends-head : (all : List Order) → IsFirstPart orders all → EndsHead size all closing n
     ends-head all b = record {
-      head = ap (λ (j : ℕ). first_of (drop j (line_given size [] all (answers_in closing)))) (ap length ended-then) ∙ ap (λ (a : List (List ℕ)). first_of (drop (length (ends_in news)) (line_given size [] all a))) answers-then
+      head = ap (λ (j : ℕ). first_of (drop j (line_given size [] all (answers_in closing)))) (ap length ended-then)
+          ∙ ap (λ (a : List (List ℕ)). first_of (drop (length (ends_in news)) (line_given size [] all a))) answers-then
           ∙ ap first_of (holds-further size orders news c s all b ∙ ap (λ (l : List ℕ). l ++ all_given size b.0) next-test.1);
       logged = ap (is_of n) logged-then ∙ closed-of n (log_of news) log ∙ is-logged;
       closed = ap any_open logged-then ∙ closed-open (log_of news) log;
     }
 
-    pub done : (news2 : List What) → news2 ≡ closing ++ what.Done n outcome ms ∷ [] → IsServing size orders news2 (without_run c)
+    pub done : (news2 : List What) → news2 ≡ closing ++ what.Done n outcome ms ∷ []
+        → IsServing size orders news2 (without_run c)
     done news2 e =
         let x = what.Done n outcome ms in
         let k = length (ends_in news) in
-        let answers : answers_in news2 ≡ answers_in news = ap answers_in e ∙ answers-more closing x ∙ append-nil (answers_in closing) ∙ answers-then in
-        let ended : ends_in news2 ≡ ends_in news ++ n ∷ [] = ap ends_in e ∙ ended-more closing x ∙ ap (λ (l : List ℕ). l ++ n ∷ []) ended-then in
+        let answers : answers_in news2 ≡ answers_in news = ap answers_in e ∙ answers-more closing x
+        ∙ append-nil (answers_in closing) ∙ answers-then in
+        let ended : ends_in news2 ≡ ends_in news ++ n ∷ [] = ap ends_in e ∙ ended-more closing x
+        ∙ ap (λ (l : List ℕ). l ++ n ∷ []) ended-then in
         let count : length (ends_in news2) ≡ k + 1 = ap length ended ∙ length-append (ends_in news) (n ∷ []) in
-        let logged : log_of news2 ≡ with_news (log_of news) (what.LogClosed log) = ap log_of e ∙ log-more closing x ∙ done-log (log_of closing) n outcome ms ∙ logged-then in
-        let number : number_of (log_of news2) ≡ log = ap number_of logged ∙ closed-number (log_of news) log ∙ (s.log_is.opened (runs-test c n runs).0).2 in
+        let logged : log_of news2 ≡ with_news (log_of news) (what.LogClosed log) = ap log_of e ∙ log-more closing x
+        ∙ done-log (log_of closing) n outcome ms ∙ logged-then in
+        let number : number_of (log_of news2) ≡ log = ap number_of logged ∙ closed-number (log_of news) log
+        ∙ (s.log_is.opened (runs-test c n runs).0).2 in
         record {
           phase = s.phase;
           size_is = s.size_is;
           line_is = s.line_is ∙ ap (λ (a : List (List ℕ)). map Test (line_given size [] orders a) ++ mark_of orders) (sym answers);
           answered = ap length answers ∙ s.answered;
           ended_is = ap (λ (j : ℕ). j + 1) s.ended_is ∙ sym count;
-          ended_first = ap (λ (j : ℕ). take j (line_given size [] orders (answers_in news2))) count ∙ ap (λ (a : List (List ℕ)). take (k + 1) (line_given size [] orders a)) answers ∙ take-next k n row next-test.0 next-test.1 ∙ ap (λ (l : List ℕ). l ++ n ∷ []) s.ended_first ∙ sym ended;
+          ended_first = ap (λ (j : ℕ). take j (line_given size [] orders (answers_in news2))) count
+              ∙ ap (λ (a : List (List ℕ)). take (k + 1) (line_given size [] orders a)) answers
+              ∙ take-next k n row next-test.0 next-test.1 ∙ ap (λ (l : List ℕ). l ++ n ∷ []) s.ended_first
+              ∙ sym ended;
           distinct = ap (λ (a : List (List ℕ)). all_distinct (line_given size [] orders a)) answers ∙ s.distinct;
-          within = ap (λ (a : List (List ℕ)). list_all (λ z. nat_lt z size) (line_given size [] orders a)) answers ∙ s.within;
+          within = ap (λ (a : List (List ℕ)). list_all (λ z. nat_lt z size) (line_given size [] orders a)) answers
+              ∙ s.within;
           log_is = record {
             opened = λ r. absurd cc;
             closed = λ r. (ap any_open logged ∙ closed-open (log_of news) log, omega (arith, number));
@@ -184,12 +203,15 @@ module _ (size : ℕ) (orders : List Order) (news : List What) (c : FunctionCall
                 let same : n ≡ m = one-of (log_of news) n m is-logged old in
                 subst (λ (l : List ℕ). among m l ≡ true) (sym ended) (subst (λ (i : ℕ). among i (ends_in news ++ n ∷ []) ≡ true) same (among-end n (ends_in news))));
           };
-          collected = ap (list_any is_collected) e ∙ collected-more closing x (collected-more news (what.LogClosed log) s.collected);
-          unfinished = ap (list_any is_last_told) e ∙ last-more closing x refl (last-more news (what.LogClosed log) refl s.unfinished);
+          collected = ap (list_any is_collected) e
+              ∙ collected-more closing x (collected-more news (what.LogClosed log) s.collected);
+          unfinished = ap (list_any is_last_told) e
+              ∙ last-more closing x refl (last-more news (what.LogClosed log) refl s.unfinished);
         }
 
 module _ (size : ℕ) (orders : List Order) (before : List What) (t : CallTurn) (k : IsServingTurn size orders before t) (n : ℕ) (runs : running_test t.call ≡ Some n) where
-  puts : (bytes : List ℕ) (sent : ℕ) → IsServingTurn size orders before (record { call = record (t.call) { sent = sent }; asks = t.asks ++ piece_asks (number_of_log t.call.ended) bytes; run = t.run })
+  puts : (bytes : List ℕ) (sent : ℕ)
+      → IsServingTurn size orders before (record { call = record (t.call) { sent = sent }; asks = t.asks ++ piece_asks (number_of_log t.call.ended) bytes; run = t.run })
   puts [] sent =
       let s = k.serves in
       let e : before ++ news_of_asks (t.asks ++ []) ≡ told_in before t = ap (λ (l : List Ask). before ++ news_of_asks l) (append-nil t.asks) in
@@ -222,13 +244,15 @@ module _ (size : ℕ) (orders : List Order) (before : List What) (t : CallTurn) 
   pub prints : (bytes : List ℕ) → IsServingTurn size orders before (put_out bytes t)
   prints bytes = puts _ _
 
-  pub ends : size ≤ most_tests → (outcome : Outcome) (ms : ℕ) → IsTurn size orders before (line_settled true (told_done n outcome ms t))
+  pub ends : size ≤ most_tests → (outcome : Outcome) (ms : ℕ)
+      → IsTurn size orders before (line_settled true (told_done n outcome ms t))
   ends few outcome ms =
       let log = number_of_log t.call.ended in
       let news = told_in before t in
       let u = told_done n outcome ms t in
       let e : told_in before u ≡ (news ++ what.LogClosed log ∷ []) ++ what.Done n outcome ms ∷ [] =
-      told-more before t.asks (CloseLog log ∷ Tell (what.Done n outcome ms) ∷ []) ∙ sym (append_assoc news (what.LogClosed log ∷ []) (what.Done n outcome ms ∷ [])) in
+      told-more before t.asks (CloseLog log ∷ Tell (what.Done n outcome ms) ∷ [])
+      ∙ sym (append_assoc news (what.LogClosed log ∷ []) (what.Done n outcome ms ∷ [])) in
       settles size orders before few u (record {
         serves = done size orders news t.call k.serves n runs outcome ms (told_in before u) e;
         fit = λ all b m. subst (AllFit size all) (sym e) (fit-more size all (news ++ what.LogClosed log ∷ []) (what.Done n outcome ms)

@@ -47,10 +47,12 @@ outputs-end w s (e ∷ es) h =
     one (Down v c b) q = absurd (differ q)
     one (NotStarted v) q = absurd (differ q)
 
-pub other-end : (w v : ℕ) (log : Option Log) (spent : ℕ) (s : State) (x : What) → (v == w) ≡ false → list_any (is_end_of w) (entry_of (meaning_of v log spent s x)) ≡ false
+pub other-end : (w v : ℕ) (log : Option Log) (spent : ℕ) (s : State) (x : What) → (v == w) ≡ false
+    → list_any (is_end_of w) (entry_of (meaning_of v log spent s x)) ≡ false
 other-end w v log spent s x h = meaning-elim v log spent s (λ o. list_any (is_end_of w) (entry_of o) ≡ false) refl (λ c b. rw h refl) refl (λ g. refl) (λ n o ms b. refl) (λ ns. refl) (rw h refl) (λ text. rw h refl) (rw h refl) x
 
-pub end-entry : (w : ℕ) (e : Entry) → is_end_of w e ≡ true → is_death e ≡ false → is_refusal e ≡ false → e ≡ Finished w
+pub end-entry : (w : ℕ) (e : Entry) → is_end_of w e ≡ true → is_death e ≡ false → is_refusal e ≡ false
+    → e ≡ Finished w
 end-entry w (Finished v) h d r = (let same : v ≡ w = grind (arith, nat_tests, h) in ap Finished same)
 end-entry w (Refused v text) h d r = absurd (differ (sym r))
 end-entry w (Down v c b) h d r = absurd (differ (sym d))
@@ -74,11 +76,14 @@ module _ (w : ℕ) (log : Option Log) (spent : ℕ) (s : State) where
   says-finished what.Ready z = absurd (or-not (Ready w) (λ q. cc) z)
   says-finished (what.Collected own) z = absurd (go (listed w s.books) z)
     where
-      go : (o : Option Listed) → Ends (or_breach w log spent s (elim o as (λ _. Entry) [ None ↦ Collected w (ids.List own) | Some l ↦ (if is_none (differ_at l.ids own) then Collected w ids.Same else Collected w (ids.List own)) ])) → ⊥
+      go : (o : Option Listed)
+          → Ends (or_breach w log spent s (elim o as (λ _. Entry) [ None ↦ Collected w (ids.List own) | Some l ↦ (if is_none (differ_at l.ids own) then Collected w ids.Same else Collected w (ids.List own)) ]))
+          → ⊥
       go None = or-not (Collected w (ids.List own)) (λ q. cc)
       go (Some l) = same (is_none (differ_at l.ids own))
         where
-          same : (q : Bool) → Ends (or_breach w log spent s (if q then Collected w ids.Same else Collected w (ids.List own))) → ⊥
+          same : (q : Bool)
+              → Ends (or_breach w log spent s (if q then Collected w ids.Same else Collected w (ids.List own))) → ⊥
           same true = or-not (Collected w ids.Same) (λ q. cc)
           same false = or-not (Collected w (ids.List own)) (λ q. cc)
   says-finished (what.LogStart n number) z = absurd (silent-not (may_start_log w n number log s) z)
@@ -94,7 +99,8 @@ module _ (w : ℕ) (log : Option Log) (spent : ℕ) (s : State) where
   says-finished what.NotStarted z = absurd (or-not (NotStarted w) (λ q. cc) z)
 
 -- in a part of a list that has none there is none
-pub part-none : (f : Entry → Bool) (xs : List Entry) (e : Entry) (ys : List Entry) → list_any f (xs ++ e ∷ ys) ≡ false → f e ≡ false
+pub part-none : (f : Entry → Bool) (xs : List Entry) (e : Entry) (ys : List Entry) → list_any f (xs ++ e ∷ ys) ≡ false
+    → f e ≡ false
 part-none f [] e ys h = first (f e) (list_any f ys) h
   where
     first : (a b : Bool) → (a || b) ≡ false → a ≡ false
@@ -107,7 +113,9 @@ part-none f (x ∷ xs) e ys h = part-none f xs e ys (second (f x) (list_any f (x
     second false b k = k
 
 pub any-last : (xs ys : List What) (x : What) → is_last_told x ≡ true → list_any is_last_told (xs ++ x ∷ ys) ≡ true
-any-last xs ys x h = list_any-append is_last_told xs (x ∷ ys) ∙ ap (λ (b : Bool). list_any is_last_told xs || (b || list_any is_last_told ys)) h ∙ all (list_any is_last_told xs)
+any-last xs ys x h = list_any-append is_last_told xs (x ∷ ys)
+    ∙ ap (λ (b : Bool). list_any is_last_told xs || (b || list_any is_last_told ys)) h
+    ∙ all (list_any is_last_told xs)
   where
     all : (b : Bool) → (b || true) ≡ true
     all true = refl

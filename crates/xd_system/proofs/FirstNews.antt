@@ -22,17 +22,20 @@ fit-none size all before x after is = absurd (empty before is)
 pub fit-ready : (size : ℕ) (all : List Order) → AllFit size all (what.Ready ∷ [])
 fit-ready size all = fit-more size all [] what.Ready (fit-none size all) refl
 
-pub fit-collected : (size : ℕ) (all : List Order) (ids : List (List ℕ)) → are_suite_ids ids ≡ true → AllFit size all (what.Ready ∷ what.Collected ids ∷ [])
+pub fit-collected : (size : ℕ) (all : List Order) (ids : List (List ℕ)) → are_suite_ids ids ≡ true
+    → AllFit size all (what.Ready ∷ what.Collected ids ∷ [])
 fit-collected size all ids h = fit-more size all (what.Ready ∷ []) (what.Collected ids) (fit-ready size all) (refl, h)
 
-pub fit-refused : (size : ℕ) (all : List Order) (text : List ℕ) → AllFit size all (what.Ready ∷ what.Closed (Some text) ∷ [])
+pub fit-refused : (size : ℕ) (all : List Order) (text : List ℕ)
+    → AllFit size all (what.Ready ∷ what.Closed (Some text) ∷ [])
 fit-refused size all text = fit-more size all (what.Ready ∷ []) (what.Closed (Some text)) (fit-ready size all) refl
 
 -- the call begins to serve
 abbrev pub begun : FunctionCall → List (List ℕ) → CallTurn
 begun c ids = record { call = serving_suite (length ids) c; asks = [] ++ Tell (what.Collected ids) ∷ []; run = None }
 
-pub begins-serving : (size : ℕ) (c : FunctionCall) (ids : List (List ℕ)) → length ids ≡ size → are_suite_ids ids ≡ true → IsServingTurn size [] (what.Ready ∷ []) (begun c ids)
+pub begins-serving : (size : ℕ) (c : FunctionCall) (ids : List (List ℕ)) → length ids ≡ size
+    → are_suite_ids ids ≡ true → IsServingTurn size [] (what.Ready ∷ []) (begun c ids)
 begins-serving size c ids e h = record {
   serves = record {
     phase = refl;

@@ -27,11 +27,15 @@ pub record Apart (w : ℕ) (es fs : List Entry) : Type 0 where
   pub ended : ends_by w fs ≡ ends_by w es
 
 -- an entry that is none of the worker's
-pub apart-one : (w : ℕ) (es : List Entry) (e : Entry) → told_to w (e ∷ []) ≡ [] → answers_by w (e ∷ []) ≡ [] → ends_by w (e ∷ []) ≡ [] → Apart w es (es ++ e ∷ [])
+pub apart-one : (w : ℕ) (es : List Entry) (e : Entry) → told_to w (e ∷ []) ≡ [] → answers_by w (e ∷ []) ≡ []
+    → ends_by w (e ∷ []) ≡ [] → Apart w es (es ++ e ∷ [])
 apart-one w es e a b c = record {
-  told = filter_map-append (order_told w) es (e ∷ []) ∙ ap (λ (l : List Order). told_to w es ++ l) a ∙ append-nil (told_to w es);
-  answers = filter_map-append (answer_in w) es (e ∷ []) ∙ ap (λ (l : List (List ℕ)). answers_by w es ++ l) b ∙ append-nil (answers_by w es);
-  ended = filter_map-append (test_ended_in w) es (e ∷ []) ∙ ap (λ (l : List ℕ). ends_by w es ++ l) c ∙ append-nil (ends_by w es);
+  told = filter_map-append (order_told w) es (e ∷ []) ∙ ap (λ (l : List Order). told_to w es ++ l) a
+      ∙ append-nil (told_to w es);
+  answers = filter_map-append (answer_in w) es (e ∷ []) ∙ ap (λ (l : List (List ℕ)). answers_by w es ++ l) b
+      ∙ append-nil (answers_by w es);
+  ended = filter_map-append (test_ended_in w) es (e ∷ []) ∙ ap (λ (l : List ℕ). ends_by w es ++ l) c
+      ∙ append-nil (ends_by w es);
 }
 
 -- what is kept of the worker stays
@@ -49,9 +53,11 @@ pub deal-same : (w : ℕ) (s t : State) (es fs : List Entry) → Apart w es fs �
 deal-same w s t es fs a f d =
     let line : line_at w t fs ≡ line_at w s es = rw (a.told, a.answers, f.size) refl in
     record {
-      held_is = f.held ∙ d.held_is ∙ sym (f.names _) ∙ ap (λ (l : List ℕ). items_named (slot_of w t.books) (drop (length (ends_by w es)) l) t.plan) (sym line)
+      held_is = f.held ∙ d.held_is ∙ sym (f.names _)
+          ∙ ap (λ (l : List ℕ). items_named (slot_of w t.books) (drop (length (ends_by w es)) l) t.plan) (sym line)
           ∙ ap (λ (x : List ℕ). items_named (slot_of w t.books) (drop (length x) (line_at w t fs)) t.plan) (sym a.ended);
-      ended_first = ap (λ (x : List ℕ). take (length x) (line_at w t fs)) a.ended ∙ ap (take (length (ends_by w es))) line ∙ d.ended_first ∙ sym a.ended;
+      ended_first = ap (λ (x : List ℕ). take (length x) (line_at w t fs)) a.ended
+          ∙ ap (take (length (ends_by w es))) line ∙ d.ended_first ∙ sym a.ended;
       reported = ap (λ (x : List ℕ). all_among (items_named (slot_of w t.books) x t.plan) t.books.table.reported) a.ended
           ∙ ap (λ (l : List ℕ). all_among l t.books.table.reported) (f.names (ends_by w es))
           ∙ all_among-of _ t.books.table.reported (λ x h. f.reported x (among_of-all_among x _ s.books.table.reported d.reported h));
@@ -73,14 +79,16 @@ quiet-steals (RunTests ns ∷ os) h = absurd (differ h)
 quiet-steals (RunAll ∷ os) h = absurd (differ h)
 quiet-steals (Steal ns ∷ os) h = absurd (differ h)
 
-pub quiet-line : (size : ℕ) (os : List Order) (backs : List (List ℕ)) → is_quiet os ≡ true → line_given size [] os backs ≡ []
+pub quiet-line : (size : ℕ) (os : List Order) (backs : List (List ℕ)) → is_quiet os ≡ true
+    → line_given size [] os backs ≡ []
 quiet-line size [] backs h = refl
 quiet-line size (Shutdown ∷ os) backs h = quiet-line size os backs h
 quiet-line size (RunTests ns ∷ os) backs h = absurd (differ h)
 quiet-line size (RunAll ∷ os) backs h = absurd (differ h)
 quiet-line size (Steal ns ∷ os) backs h = absurd (differ h)
 
-pub quiet-fair : (size : ℕ) (os : List Order) (backs : List (List ℕ)) → is_quiet os ≡ true → are_fair size [] os backs ≡ true
+pub quiet-fair : (size : ℕ) (os : List Order) (backs : List (List ℕ)) → is_quiet os ≡ true
+    → are_fair size [] os backs ≡ true
 quiet-fair size [] backs h = refl
 quiet-fair size (Shutdown ∷ os) backs h = quiet-fair size os backs h
 quiet-fair size (RunTests ns ∷ os) backs h = absurd (differ h)
@@ -93,13 +101,16 @@ pub record Bare (w : ℕ) (t : State) (told : List Order) : Type 0 where
   pub marks : is_shut w t.books ≡ list_any is_shutdown told
   pub asked : asked_of w t.plan.steal ≡ []
 
-pub deal-bare : (w : ℕ) (t : State) (es : List Entry) → is_quiet (told_to w es) ≡ true → marks_last (told_to w es) ≡ true → answers_by w es ≡ [] → ends_by w es ≡ [] → Bare w t (told_to w es) → Deal w t es
+pub deal-bare : (w : ℕ) (t : State) (es : List Entry) → is_quiet (told_to w es) ≡ true
+    → marks_last (told_to w es) ≡ true → answers_by w es ≡ [] → ends_by w es ≡ [] → Bare w t (told_to w es)
+    → Deal w t es
 deal-bare w t es q l a n b =
     let line : line_at w t es ≡ [] = quiet-line (size_at w t) (told_to w es) (answers_by w es) q in
     record {
       held_is = b.held ∙ sym (ap (λ (k : List ℕ). items_named (slot_of w t.books) (drop (length (ends_by w es)) k) t.plan) line ∙ ap (λ (k : List ℕ). items_named (slot_of w t.books) k t.plan) (drop-nil (length (ends_by w es))) ∙ named-none (slot_of w t.books) t.plan);
       ended_first = ap (take (length (ends_by w es))) line ∙ take-nil (length (ends_by w es)) ∙ sym n;
-      reported = ap (λ (k : List ℕ). all_among (items_named (slot_of w t.books) k t.plan) t.books.table.reported) n ∙ ap (λ (k : List ℕ). all_among k t.books.table.reported) (named-none (slot_of w t.books) t.plan);
+      reported = ap (λ (k : List ℕ). all_among (items_named (slot_of w t.books) k t.plan) t.books.table.reported) n
+          ∙ ap (λ (k : List ℕ). all_among k t.books.table.reported) (named-none (slot_of w t.books) t.plan);
       fair = quiet-fair (size_at w t) (told_to w es) (answers_by w es) q;
       last = l;
       marks = b.marks;
@@ -122,7 +133,10 @@ quiet-deal w s es d q =
     let none : steals_asked (told_to w es) ≡ [] = quiet-steals (told_to w es) q in
     let answers : answers_by w es ≡ [] = none-of_length (answers_by w es) (subst (λ (k : List (List ℕ)). length (answers_by w es) ≤ length k) none d.answered) in
     record {
-      held = d.held_is ∙ ap (λ (k : List ℕ). items_named (slot_of w s.books) (drop (length (ends_by w es)) k) s.plan) line ∙ ap (λ (k : List ℕ). items_named (slot_of w s.books) k s.plan) (drop-nil (length (ends_by w es))) ∙ named-none (slot_of w s.books) s.plan;
+      held = d.held_is
+          ∙ ap (λ (k : List ℕ). items_named (slot_of w s.books) (drop (length (ends_by w es)) k) s.plan) line
+          ∙ ap (λ (k : List ℕ). items_named (slot_of w s.books) k s.plan) (drop-nil (length (ends_by w es)))
+          ∙ named-none (slot_of w s.books) s.plan;
       answers = answers;
       ended = sym d.ended_first ∙ ap (take (length (ends_by w es))) line ∙ take-nil (length (ends_by w es));
       asked = d.open_steal ∙ ap (drop (length (answers_by w es))) none ∙ drop-nil (length (answers_by w es));

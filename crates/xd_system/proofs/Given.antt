@@ -37,7 +37,8 @@ pub record Gives (w : ℕ) (ns : List ℕ) (s : State) : Type 0 where
   pub unshut : is_shut w s.books ≡ false
   pub distinct : all_distinct (items_named (slot_of w s.books) ns s.plan) ≡ true
   pub pool : all_among (items_named (slot_of w s.books) ns s.plan) s.books.table.pool ≡ true
-  pub slots : is_each s.plan.mode ≡ true → all_among (items_named (slot_of w s.books) ns s.plan) (slot_items (slot_of w s.books) s.plan) ≡ true
+  pub slots : is_each s.plan.mode ≡ true
+      → all_among (items_named (slot_of w s.books) ns s.plan) (slot_items (slot_of w s.books) s.plan) ≡ true
   pub shared : s.books.shared ≡ true
 
 -- an order that gives these tests
@@ -62,7 +63,8 @@ module _ (w : ℕ) (ns : List ℕ) (es : List Entry) (s : State) (placed : Place
   low : (n : ℕ) → among n ns ≡ true → n < size_at w s
   low n a = go (is_each s.plan.mode) refl
     where
-      go : (b : Bool) → is_each s.plan.mode ≡ b → n < (if b then slice_index s.plan.sizes (slot_of w s.books) else total s.plan)
+      go : (b : Bool) → is_each s.plan.mode ≡ b
+          → n < (if b then slice_index s.plan.sizes (slot_of w s.books) else total s.plan)
       go true q =
           let slot = slot_of w s.books in
           let there : among (item_at slot n s.plan) (slot_items slot s.plan) ≡ true = among_of-all_among (item_at slot n s.plan) items (slot_items slot s.plan) (g.slots q) (same-items slot n ns s.plan ∙ a) in
@@ -98,7 +100,8 @@ module _ (w : ℕ) (ns : List ℕ) (es : List Entry) (s : State) (placed : Place
       either [] ys p q = p
       either (x ∷ xs) ys p q = grind (arith, nat_tests, either xs ys, p, q)
 
-      behind : among n (line_at w s es) ≡ true → among n (ends_by w es) ≡ false → among n (drop (length (ends_by w es)) (line_at w s es)) ≡ true
+      behind : among n (line_at w s es) ≡ true → among n (ends_by w es) ≡ false
+          → among n (drop (length (ends_by w es)) (line_at w s es)) ≡ true
       behind b c =
           let k = length (ends_by w es) in
           let line = line_at w s es in
@@ -107,7 +110,8 @@ module _ (w : ℕ) (ns : List ℕ) (es : List Entry) (s : State) (placed : Place
   new : are_new (size_at w s) (line_at w s es) ns ≡ true
   new = and (each ns (λ n a. a)) (named-distinct (slot_of w s.books) ns s.plan g.distinct)
     where
-      each : (ms : List ℕ) → ((n : ℕ) → among n ms ≡ true → among n ns ≡ true) → list_all (λ n. nat_lt n (size_at w s) && not (among n (line_at w s es))) ms ≡ true
+      each : (ms : List ℕ) → ((n : ℕ) → among n ms ≡ true → among n ns ≡ true)
+          → list_all (λ n. nat_lt n (size_at w s) && not (among n (line_at w s es))) ms ≡ true
       each [] k = refl
       each (m ∷ ms) k =
           let a = k m (grind (arith, nat_tests)) in
@@ -123,10 +127,12 @@ module _ (w : ℕ) (ns : List ℕ) (es : List Entry) (s : State) (placed : Place
     told-more = filter_map-append (order_told w) es (e ∷ []) ∙ ap (λ (l : List Order). told_to w es ++ l) tells
 
     answers-same : answers_by w (es ++ e ∷ []) ≡ answers_by w es
-    answers-same = filter_map-append (answer_in w) es (e ∷ []) ∙ ap (λ (l : List (List ℕ)). answers_by w es ++ l) backs ∙ append-nil (answers_by w es)
+    answers-same = filter_map-append (answer_in w) es (e ∷ [])
+        ∙ ap (λ (l : List (List ℕ)). answers_by w es ++ l) backs ∙ append-nil (answers_by w es)
 
     ended-same : ends_by w (es ++ e ∷ []) ≡ ends_by w es
-    ended-same = filter_map-append (test_ended_in w) es (e ∷ []) ∙ ap (λ (l : List ℕ). ends_by w es ++ l) ends ∙ append-nil (ends_by w es)
+    ended-same = filter_map-append (test_ended_in w) es (e ∷ []) ∙ ap (λ (l : List ℕ). ends_by w es ++ l) ends
+        ∙ append-nil (ends_by w es)
 
     size-is : size_at w t ≡ size_at w s
     size-is = size-same w s t refl mode sizes
@@ -135,8 +141,10 @@ module _ (w : ℕ) (ns : List ℕ) (es : List Entry) (s : State) (placed : Place
     line-then =
         let size = size_at w s in
         ap (λ (z : ℕ). line_given z [] (told_to w (es ++ e ∷ [])) (answers_by w (es ++ e ∷ []))) size-is
-        ∙ ap (λ (os : List Order). line_given size [] os (answers_by w (es ++ e ∷ []))) told-more ∙ ap (line_given size [] (told_to w es ++ o ∷ [])) answers-same
-        ∙ dealt-append size [] (told_to w es) (o ∷ []) (answers_by w es) ∙ by.after (line_at w s es) (left_of (told_to w es) (answers_by w es))
+        ∙ ap (λ (os : List Order). line_given size [] os (answers_by w (es ++ e ∷ []))) told-more
+        ∙ ap (line_given size [] (told_to w es ++ o ∷ [])) answers-same
+        ∙ dealt-append size [] (told_to w es) (o ∷ []) (answers_by w es)
+        ∙ by.after (line_at w s es) (left_of (told_to w es) (answers_by w es))
 
     pub takes_tests : Deal w t (es ++ e ∷ [])
     takes_tests =
@@ -147,22 +155,32 @@ module _ (w : ℕ) (ns : List ℕ) (es : List Entry) (s : State) (placed : Place
         let unshut : list_any is_shutdown (told_to w es) ≡ false = sym d.marks ∙ g.unshut in
         let fit : k ≤ length line = count-taken k line (ap length d.ended_first) in
         let steals-same : steals_asked (told_to w (es ++ e ∷ [])) ≡ steals_asked (told_to w es) =
-        ap steals_asked told-more ∙ steals-append (told_to w es) (o ∷ []) ∙ ap (λ (l : List (List ℕ)). steals_asked (told_to w es) ++ (l ++ [])) by.asks ∙ append-nil (steals_asked (told_to w es)) in
-        let here : may_be_told size line o (left_of (told_to w es) (answers_by w es)) ≡ true = by.fair line (left_of (told_to w es) (answers_by w es)) ∙ new in
+        ap steals_asked told-more ∙ steals-append (told_to w es) (o ∷ [])
+        ∙ ap (λ (l : List (List ℕ)). steals_asked (told_to w es) ++ (l ++ [])) by.asks
+        ∙ append-nil (steals_asked (told_to w es)) in
+        let here : may_be_told size line o (left_of (told_to w es) (answers_by w es)) ≡ true = by.fair line (left_of (told_to w es) (answers_by w es))
+        ∙ new in
         record {
-          held_is = held-grown w items s.books.table.rota g.rota ∙ ap (λ (l : List ℕ). l ++ items) d.held_is ∙ sym (named-append slot (drop k line) ns s.plan)
-              ∙ ap (λ (l : List ℕ). items_named slot l s.plan) (sym (drop-append-le k line ns fit)) ∙ ap (λ (l : List ℕ). items_named slot (drop k l) s.plan) (sym line-then)
+          held_is = held-grown w items s.books.table.rota g.rota ∙ ap (λ (l : List ℕ). l ++ items) d.held_is
+              ∙ sym (named-append slot (drop k line) ns s.plan)
+              ∙ ap (λ (l : List ℕ). items_named slot l s.plan) (sym (drop-append-le k line ns fit))
+              ∙ ap (λ (l : List ℕ). items_named slot (drop k l) s.plan) (sym line-then)
               ∙ ap (λ (x : List ℕ). items_named slot (drop (length x) (line_at w t (es ++ e ∷ []))) s.plan) (sym ended-same)
               ∙ sym (names-same w s t (drop (length (ends_by w (es ++ e ∷ []))) (line_at w t (es ++ e ∷ []))) refl mode sizes);
-          ended_first = ap (λ (x : List ℕ). take (length x) (line_at w t (es ++ e ∷ []))) ended-same ∙ ap (take k) line-then ∙ take-append-le k line ns fit ∙ d.ended_first ∙ sym ended-same;
+          ended_first = ap (λ (x : List ℕ). take (length x) (line_at w t (es ++ e ∷ []))) ended-same
+              ∙ ap (take k) line-then ∙ take-append-le k line ns fit ∙ d.ended_first ∙ sym ended-same;
           reported = ap (λ (l : List ℕ). all_among l s.books.table.reported) (names-same w s t (ends_by w (es ++ e ∷ [])) refl mode sizes)
-              ∙ ap (λ (l : List ℕ). all_among (items_named slot l s.plan) s.books.table.reported) ended-same ∙ d.reported;
+              ∙ ap (λ (l : List ℕ). all_among (items_named slot l s.plan) s.books.table.reported) ended-same
+              ∙ d.reported;
           fair = ap (λ (z : ℕ). are_fair z [] (told_to w (es ++ e ∷ [])) (answers_by w (es ++ e ∷ []))) size-is
-              ∙ ap (λ (os : List Order). are_fair size [] os (answers_by w (es ++ e ∷ []))) told-more ∙ ap (are_fair size [] (told_to w es ++ o ∷ [])) answers-same
+              ∙ ap (λ (os : List Order). are_fair size [] os (answers_by w (es ++ e ∷ []))) told-more
+              ∙ ap (are_fair size [] (told_to w es ++ o ∷ [])) answers-same
               ∙ fair-more size [] (told_to w es) o (answers_by w es) d.fair here;
           last = ap marks_last told-more ∙ marks-more (told_to w es) o unshut;
           marks = d.marks ∙ sym (ap (list_any is_shutdown) told-more ∙ shut-same (told_to w es) o by.unmarked);
-          open_steal = ap (asked_of w) steal ∙ d.open_steal ∙ ap (λ (l : List (List ℕ)). drop (length l) (steals_asked (told_to w es))) (sym answers-same) ∙ ap (drop (length (answers_by w (es ++ e ∷ [])))) (sym steals-same);
+          open_steal = ap (asked_of w) steal ∙ d.open_steal
+              ∙ ap (λ (l : List (List ℕ)). drop (length l) (steals_asked (told_to w es))) (sym answers-same)
+              ∙ ap (drop (length (answers_by w (es ++ e ∷ [])))) (sym steals-same);
           answered = subst (λ (l : List (List ℕ)). length (answers_by w (es ++ e ∷ [])) ≤ length l) (sym steals-same) (subst (λ (l : List (List ℕ)). length l ≤ length (steals_asked (told_to w es))) (sym answers-same) d.answered);
           early = λ r. absurd (differ (sym r ∙ seat-change w w (λ x. record x { held = x.held ++ items }) s.books.table.rota (λ x. refl) ∙ g.rota));
           unshared = λ r. absurd (differ (sym r ∙ g.shared));
@@ -170,12 +188,14 @@ module _ (w : ℕ) (ns : List ℕ) (es : List Entry) (s : State) (placed : Place
 
 -- a Run
 
-some-pooled : (s : State) (items : List ℕ) → Placed s → not_empty items ≡ true → all_among items s.books.table.pool ≡ true → s.books.shared ≡ true
+some-pooled : (s : State) (items : List ℕ) → Placed s → not_empty items ≡ true
+    → all_among items s.books.table.pool ≡ true → s.books.shared ≡ true
 some-pooled s [] k f a = absurd (differ f)
 some-pooled s (x ∷ xs) k f a = elim (cases_of s.books.shared) [
   | inl b ↦ b
   | inr b ↦ (let c = among-times x s.books.table.pool (split-and (among x s.books.table.pool) (all_among xs s.books.table.pool) a).0 in
-      let z : times x (all_items s.books.table) ≡ 0 = k.whole x ∙ ap (λ (q : Bool). if q then times x (range_with_len 0 (total s.plan)) else 0) b in
+      let z : times x (all_items s.books.table) ≡ 0 = k.whole x
+      ∙ ap (λ (q : Bool). if q then times x (range_with_len 0 (total s.plan)) else 0) b in
       absurd (omega (arith, c, z, times-table x s.books.table)))
 ]
 
@@ -205,7 +225,8 @@ gives-run w ns s placed h =
       shared = some-pooled s items placed (filled-named (slot_of w s.books) ns s.plan t.1) q.1;
     }
 
-pub takes_run : (w : ℕ) (ns : List ℕ) (es : List Entry) (s : State) → Placed s → is_orderly s (Run w ns) ≡ true → Deal w s es → Deal w (after_effect s (Run w ns)) (es ++ Run w ns ∷ [])
+pub takes_run : (w : ℕ) (ns : List ℕ) (es : List Entry) (s : State) → Placed s → is_orderly s (Run w ns) ≡ true
+    → Deal w s es → Deal w (after_effect s (Run w ns)) (es ++ Run w ns ∷ [])
 takes_run w ns es s placed h d =
     let own : (w == w) ≡ true = grind (arith, nat_tests) in
     takes_tests w ns es s placed (gives-run w ns s placed h) d (Run w ns) (order.RunTests ns) (run_plan w ns s.plan) (record { asks = refl; unmarked = refl; after = λ l b. refl; fair = λ l b. refl })
@@ -217,13 +238,16 @@ range-plus : (a n m : ℕ) → map (λ i. a + i) (range_with_len m n) ≡ range_
 range-plus a zero m = refl
 range-plus a (suc n) m = (let e : a + (m + 1) ≡ a + m + 1 = omega arith in ap (λ (l : List ℕ). (a + m) ∷ l) (range-plus a n (m + 1) ∙ ap (λ (k : ℕ). range_with_len k n) e))
 
-all-named : (slot : ℕ) (p : Plan) → is_each p.mode ≡ true → items_named slot (range_with_len 0 (slice_index p.sizes slot)) p ≡ slot_items slot p
+all-named : (slot : ℕ) (p : Plan) → is_each p.mode ≡ true
+    → items_named slot (range_with_len 0 (slice_index p.sizes slot)) p ≡ slot_items slot p
 all-named slot p h =
     let n = slice_index p.sizes slot in
     let e : base slot p + 0 ≡ base slot p = omega arith in
-    ap (λ (b : Bool). if b then map (λ i. base slot p + i) (range_with_len 0 n) else range_with_len 0 n) h ∙ range-plus (base slot p) n 0 ∙ ap (λ (k : ℕ). range_with_len k n) e
+    ap (λ (b : Bool). if b then map (λ i. base slot p + i) (range_with_len 0 n) else range_with_len 0 n) h
+    ∙ range-plus (base slot p) n 0 ∙ ap (λ (k : ℕ). range_with_len k n) e
 
-pub takes_run_all : (w : ℕ) (es : List Entry) (s : State) → Placed s → is_orderly s (RunAll w) ≡ true → Deal w s es → Deal w (after_effect s (RunAll w)) (es ++ RunAll w ∷ [])
+pub takes_run_all : (w : ℕ) (es : List Entry) (s : State) → Placed s → is_orderly s (RunAll w) ≡ true → Deal w s es
+    → Deal w (after_effect s (RunAll w)) (es ++ RunAll w ∷ [])
 takes_run_all w es s placed h d =
     let own : (w == w) ≡ true = grind (arith, nat_tests) in
     let slot = slot_of w s.books in

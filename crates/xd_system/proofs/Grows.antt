@@ -35,7 +35,8 @@ pub grows-then : (t u v : CallTurn) → Grows t u → Grows u v → Grows t v
 grows-then t u v a b = (
   a.0 ++ b.0,
   b.1 ∙ ap (λ (l : List Ask). l ++ b.0) a.1 ∙ append_assoc t.asks a.0 b.0,
-  ap outcomes_in (asks-append a.0 b.0) ∙ filter_map-append outcome_of_news (news_of_asks a.0) (news_of_asks b.0) ∙ ap (λ (l : List (ℕ × Outcome)). l ++ outcomes_in (news_of_asks b.0)) a.2 ∙ b.2,
+  ap outcomes_in (asks-append a.0 b.0) ∙ filter_map-append outcome_of_news (news_of_asks a.0) (news_of_asks b.0)
+      ∙ ap (λ (l : List (ℕ × Outcome)). l ++ outcomes_in (news_of_asks b.0)) a.2 ∙ b.2,
 )
 
 pub grows-over : (text : Option (List ℕ)) (t : CallTurn) → Grows t (over text t)

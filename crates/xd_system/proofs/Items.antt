@@ -33,7 +33,8 @@ commutes : {A : Type 0} (f g : A → Bool) (xs : List A) → filter f (filter g 
 commutes f g [] = refl
 commutes f g (x ∷ xs) = grind (arith, commutes f g xs)
 
-mapped : {A B : Type 0} (f : B → Bool) (h : A → B) (xs : List A) → filter f (map h xs) ≡ map h (filter (λ x. f (h x)) xs)
+mapped : {A B : Type 0} (f : B → Bool) (h : A → B) (xs : List A)
+    → filter f (map h xs) ≡ map h (filter (λ x. f (h x)) xs)
 mapped f h [] = refl
 mapped f h (x ∷ xs) = go (f (h x)) (mapped f h xs)
   where
@@ -46,21 +47,25 @@ none-named : (x : ℕ) (rs : List Report) → times x (map item_of rs) ≡ 0 →
 none-named x [] h = refl
 none-named x (r ∷ rs) h = go (x == item_of r) (none-named x rs) h
   where
-    go : (b : Bool) → (times x (map item_of rs) ≡ 0 → filter (λ q. x == item_of q) rs ≡ []) → (if b then 1 else 0) + times x (map item_of rs) ≡ 0
+    go : (b : Bool) → (times x (map item_of rs) ≡ 0 → filter (λ q. x == item_of q) rs ≡ [])
+        → (if b then 1 else 0) + times x (map item_of rs) ≡ 0
         → (if b then r ∷ filter (λ q. x == item_of q) rs else filter (λ q. x == item_of q) rs) ≡ []
     go true rest z = absurd (omega (arith, z))
     go false rest z = rest (omega (arith, z))
 
-one-named : (x : ℕ) (rs : List Report) → times x (map item_of rs) ≡ 1 → (q : Report) × (filter (λ q. x == item_of q) rs ≡ q ∷ [])
+one-named : (x : ℕ) (rs : List Report) → times x (map item_of rs) ≡ 1
+    → (q : Report) × (filter (λ q. x == item_of q) rs ≡ q ∷ [])
 one-named x [] h = absurd (omega (arith, h))
 one-named x (r ∷ rs) h = go (x == item_of r) (one-named x rs) h
   where
-    go : (b : Bool) → (times x (map item_of rs) ≡ 1 → (q : Report) × (filter (λ q. x == item_of q) rs ≡ q ∷ [])) → (if b then 1 else 0) + times x (map item_of rs) ≡ 1
+    go : (b : Bool) → (times x (map item_of rs) ≡ 1 → (q : Report) × (filter (λ q. x == item_of q) rs ≡ q ∷ []))
+        → (if b then 1 else 0) + times x (map item_of rs) ≡ 1
         → (q : Report) × ((if b then r ∷ filter (λ q. x == item_of q) rs else filter (λ q. x == item_of q) rs) ≡ q ∷ [])
     go true rest z = (r, ap (λ (l : List Report). r ∷ l) (none-named x rs (omega (arith, z))))
     go false rest z = rest (omega (arith, z))
 
-counted : (n : ℕ) (ds : List (ℕ × Outcome)) → times n (map (λ (p : ℕ × Outcome). p.0) ds) ≡ length (filter (λ (p : ℕ × Outcome). n == p.0) ds)
+counted : (n : ℕ) (ds : List (ℕ × Outcome))
+    → times n (map (λ (p : ℕ × Outcome). p.0) ds) ≡ length (filter (λ (p : ℕ × Outcome). n == p.0) ds)
 counted n [] = refl
 counted n (d ∷ ds) = go (n == d.0) (counted n ds)
   where
@@ -70,7 +75,8 @@ counted n (d ∷ ds) = go (n == d.0) (counted n ds)
     go false k = omega (arith, k)
 
 -- items from one number on are the same where the tests are
-shifted : (b n : ℕ) (ds : List (ℕ × Outcome)) → filter (λ (p : ℕ × Outcome). b + n == b + p.0) ds ≡ filter (λ (p : ℕ × Outcome). n == p.0) ds
+shifted : (b n : ℕ) (ds : List (ℕ × Outcome))
+    → filter (λ (p : ℕ × Outcome). b + n == b + p.0) ds ≡ filter (λ (p : ℕ × Outcome). n == p.0) ds
 shifted b n [] = refl
 shifted b n (d ∷ ds) =
     ap (λ (c : Bool). if c then d ∷ filter (λ (p : ℕ × Outcome). b + n == b + p.0) ds else filter (λ (p : ℕ × Outcome). b + n == b + p.0) ds) (same b n d.0)
@@ -84,7 +90,8 @@ kept-has : {A : Type 0} (f : A → Bool) (xs : List A) (y : A) (ys : List A) →
 kept-has f [] y ys h = absurd cc
 kept-has f (x ∷ xs) y ys h = go (f x) refl (kept-has f xs y ys) h
   where
-    go : (b : Bool) → f x ≡ b → (filter f xs ≡ y ∷ ys → f y ≡ true) → (if b then x ∷ filter f xs else filter f xs) ≡ y ∷ ys → f y ≡ true
+    go : (b : Bool) → f x ≡ b → (filter f xs ≡ y ∷ ys → f y ≡ true)
+        → (if b then x ∷ filter f xs else filter f xs) ≡ y ∷ ys → f y ≡ true
     go true e rest z = (let same : x ≡ y = cc in sym (ap f same) ∙ e)
     go false e rest z = rest z
 
@@ -113,16 +120,19 @@ module _ (settings : Settings) (taken : List News) (links : ℕ → LinkNow) (pr
   sound : IsProperRun settings (run_of settings taken)
   sound = sound-run settings taken proper
 
-  once : (x : ℕ) → x < total (run_of settings taken).state.plan → times x (map item_of (reports settings (run_of settings taken).entries)) ≡ 1
+  once : (x : ℕ) → x < total (run_of settings taken).state.plan
+      → times x (map item_of (reports settings (run_of settings taken).entries)) ≡ 1
   once x low = ap (λ (es : List Entry). times x (map item_of (reports settings es))) sound.journal
       ∙ (reported_once settings r.inputs sound.proper).all_told (sym (ap (λ (s : State). is_over s.books) sound.state) ∙ over)
       (sym (ap (λ (s : State). is_stopped s.books) sound.state) ∙ unstopped) x (subst (λ (s : State). x < total s.plan) sound.state low)
 
-  its-tests : (w : ℕ) → has_member w (λ m. true) (run_of settings taken).state.books ≡ true → ReportsItsTests (run_of settings taken) settings w (links w).given
+  its-tests : (w : ℕ) → has_member w (λ m. true) (run_of settings taken).state.books ≡ true
+      → ReportsItsTests (run_of settings taken) settings w (links w).given
   its-tests w member = reports_its_tests settings taken links proper honest alive over unstopped w member
 
   -- what a worker that was not started reports
-  unstarted : (w : ℕ) → has_member w (λ m. true) (run_of settings taken).state.books ≡ false → filter (is_report_of w) (reports settings (run_of settings taken).entries) ≡ []
+  unstarted : (w : ℕ) → has_member w (λ m. true) (run_of settings taken).state.books ≡ false
+      → filter (is_report_of w) (reports settings (run_of settings taken).entries) ≡ []
   unstarted w none =
       let reported = at-run settings r (Reported settings w) (keeps_reported settings w) sound (reported-none settings w) in
       reported.reports_are alive ∙ ap (results w r.state) (reported.unstarted none)
@@ -133,7 +143,8 @@ module _ (settings : Settings) (taken : List News) (links : ℕ → LinkNow) (pr
 
     -- of each worker's reports those that name the item
     by_worker : (w : ℕ) → filter (λ q. x == item_of q) (filter (is_report_of w) (reports settings (run_of settings taken).entries)) ≡ (if worker_of one.0 == w then one.0 ∷ [] else [])
-    by_worker w = commutes (λ q. x == item_of q) (is_report_of w) rs ∙ ap (filter (is_report_of w)) one.1 ∙ ap (λ (b : Bool). if b then one.0 ∷ [] else []) (reports-of w one.0)
+    by_worker w = commutes (λ q. x == item_of q) (is_report_of w) rs ∙ ap (filter (is_report_of w)) one.1
+        ∙ ap (λ (b : Bool). if b then one.0 ∷ [] else []) (reports-of w one.0)
 
     by_member : (w : ℕ) → has_member w (λ m. true) (run_of settings taken).state.books ≡ true
         → map (λ (p : ℕ × Outcome). Result w (base (slot_of w (run_of settings taken).state.books) (run_of settings taken).state.plan + p.0) p.1)
@@ -159,17 +170,22 @@ module _ (settings : Settings) (taken : List News) (links : ℕ → LinkNow) (pr
     ends = outcomes (links its).given
 
     -- the one test of the worker that is the item
-    found : (ds : List (ℕ × Outcome)) → filter (λ (p : ℕ × Outcome). x == first its + p.0) (outcomes (links (worker_of one.0)).given) ≡ ds → RanOnce (run_of settings taken) settings links x
+    found : (ds : List (ℕ × Outcome))
+        → filter (λ (p : ℕ × Outcome). x == first its + p.0) (outcomes (links (worker_of one.0)).given) ≡ ds
+        → RanOnce (run_of settings taken) settings links x
     found [] e = absurd (let z : [] ≡ one.0 ∷ [] = sym (ap (map (λ (p : ℕ × Outcome). Result its (first its + p.0) p.1)) e) ∙ by_member its member ∙ ap (λ (b : Bool). if b then one.0 ∷ [] else []) is-its in cc)
     found (d ∷ ds) e =
         let all : Result its (first its + d.0) d.1 ∷ map (λ (p : ℕ × Outcome). Result its (first its + p.0) p.1) ds ≡ one.0 ∷ []
-        = sym (ap (map (λ (p : ℕ × Outcome). Result its (first its + p.0) p.1)) e) ∙ by_member its member ∙ ap (λ (b : Bool). if b then one.0 ∷ [] else []) is-its in
+        = sym (ap (map (λ (p : ℕ × Outcome). Result its (first its + p.0) p.1)) e) ∙ by_member its member
+        ∙ ap (λ (b : Bool). if b then one.0 ∷ [] else []) is-its in
         let report : Result its (first its + d.0) d.1 ≡ one.0 = cc in
         let rest : map (λ (p : ℕ × Outcome). Result its (first its + p.0) p.1) ds ≡ [] = cc in
         let here : (x == first its + d.0) ≡ true = kept-has (λ (p : ℕ × Outcome). x == first its + p.0) ends d ds e in
         let item : first its + d.0 ≡ x = grind (arith, nat_tests, here) in
         let alone : filter (λ (p : ℕ × Outcome). d.0 == p.0) ends ≡ d ∷ []
-        = sym (shifted (first its) d.0 ends) ∙ ap (λ (y : ℕ). filter (λ (p : ℕ × Outcome). y == first its + p.0) ends) item ∙ e ∙ ap (λ (l : List (ℕ × Outcome)). d ∷ l) (unmapped ds rest) in
+        = sym (shifted (first its) d.0 ends)
+        ∙ ap (λ (y : ℕ). filter (λ (p : ℕ × Outcome). y == first its + p.0) ends) item ∙ e
+        ∙ ap (λ (l : List (ℕ × Outcome)). d ∷ l) (unmapped ds rest) in
         record {
           worker = its;
           test = d.0;
@@ -186,11 +202,13 @@ module _ (settings : Settings) (taken : List News) (links : ℕ → LinkNow) (pr
               ∙ unmapped-of v (filter (λ (p : ℕ × Outcome). x == first v + p.0) (outcomes (links v).given)) none));
         }
       where
-        unmapped-of : (v : ℕ) (cs : List (ℕ × Outcome)) → map (λ (p : ℕ × Outcome). Result v (first v + p.0) p.1) cs ≡ [] → cs ≡ []
+        unmapped-of : (v : ℕ) (cs : List (ℕ × Outcome))
+            → map (λ (p : ℕ × Outcome). Result v (first v + p.0) p.1) cs ≡ [] → cs ≡ []
         unmapped-of v [] h = refl
         unmapped-of v (c ∷ cs) h = absurd cc
 
-        unmapped : (cs : List (ℕ × Outcome)) → map (λ (p : ℕ × Outcome). Result its (first its + p.0) p.1) cs ≡ [] → cs ≡ []
+        unmapped : (cs : List (ℕ × Outcome)) → map (λ (p : ℕ × Outcome). Result its (first its + p.0) p.1) cs ≡ []
+            → cs ≡ []
         unmapped cs h = unmapped-of its cs h
 
         unlike : (v w : ℕ) → (v == w) ≡ false → (w == v) ≡ false

@@ -40,19 +40,22 @@ use Rattle.xd_system.proofs.Shuts.{takes_collected, takes_shutdown, takes_start}
 live : (w : ℕ) (t : State) (fs : List Entry) → has_member w (λ m. true) t.books ≡ true → Deal w t fs → Deals w t fs
 live w t fs m d = record { unstarted = λ h. absurd (differ (sym h ∙ m)); unasked = λ h. absurd (differ (sym h ∙ m)); active = λ h. d }
 
-ended : (w : ℕ) (t : State) (fs : List Entry) → has_member w (λ m. true) t.books ≡ true → is_active w t.books ≡ false → Deals w t fs
+ended : (w : ℕ) (t : State) (fs : List Entry) → has_member w (λ m. true) t.books ≡ true → is_active w t.books ≡ false
+    → Deals w t fs
 ended w t fs m a = record { unstarted = λ h. absurd (differ (sym h ∙ m)); unasked = λ h. absurd (differ (sym h ∙ m)); active = λ h. absurd (differ (sym a ∙ h)) }
 
 member-of : (w : ℕ) (s : State) → is_active w s.books ≡ true → has_member w (λ m. true) s.books ≡ true
 member-of w s h = has-member w (λ m. m.active) s.books.members h
 
-gone-member : (w : ℕ) (ms : List Member) → has w (λ m. true) ms ≡ true → has w (λ m. true) (map (made_gone w) ms) ≡ true
+gone-member : (w : ℕ) (ms : List Member) → has w (λ m. true) ms ≡ true
+    → has w (λ m. true) (map (made_gone w) ms) ≡ true
 gone-member w ms h = has-same w (λ m. true) (made_gone w) ms (λ m. refl) (λ m. refl) ∙ h
 
 gone-active : (w : ℕ) (ms : List Member) → has w (λ m. m.active) (map (made_gone w) ms) ≡ false
 gone-active w ms =
     let own : (w == w) ≡ true = grind (arith, nat_tests) in
-    has-cleared w w (λ m. m.active) (made_gone w) ms (λ m. refl) (λ m. refl) ∙ ap (λ (b : Bool). not b && has w (λ m. m.active) ms) own
+    has-cleared w w (λ m. m.active) (made_gone w) ms (λ m. refl) (λ m. refl)
+    ∙ ap (λ (b : Bool). not b && has w (λ m. m.active) ms) own
 
 -- of the worker itself, or of another
 either : (P : ℕ → Type 0) (v w : ℕ) → ((v == w) ≡ false → P v) → P w → P v
@@ -65,7 +68,8 @@ module _ (w : ℕ) (s : State) (es : List Entry) (d : Deals w s es) where
   abbrev Kept : Entry → Type 0
   Kept e = Deals w (after_effect s e) (es ++ e ∷ [])
 
-  stay : (e : Entry) → told_to w (e ∷ []) ≡ [] → answers_by w (e ∷ []) ≡ [] → ends_by w (e ∷ []) ≡ [] → Stays w s (after_effect s e) → Kept e
+  stay : (e : Entry) → told_to w (e ∷ []) ≡ [] → answers_by w (e ∷ []) ≡ [] → ends_by w (e ∷ []) ≡ []
+      → Stays w s (after_effect s e) → Kept e
   stay e a b c k = deals-stay w s (after_effect s e) es (es ++ e ∷ []) (apart-one w es e a b c) k d
 
   -- inputs
@@ -73,7 +77,8 @@ module _ (w : ℕ) (s : State) (es : List Entry) (d : Deals w s es) where
   said-ready : (v : ℕ) → Kept (Ready v)
   said-ready v = stay (Ready v) refl refl refl (ready-stays w v s)
 
-  said-done : (v n : ℕ) (o : Outcome) (ms : ℕ) (b : List ℕ) → Placed s → may_follow s (Done v n o ms b) ≡ true → Kept (Done v n o ms b)
+  said-done : (v n : ℕ) (o : Outcome) (ms : ℕ) (b : List ℕ) → Placed s → may_follow s (Done v n o ms b) ≡ true
+      → Kept (Done v n o ms b)
   said-done v n o ms b placed = either (λ x. may_follow s (Done x n o ms b) ≡ true → Kept (Done x n o ms b)) v w
       (λ h m. stay (Done v n o ms b) refl refl (rw h refl) (done-stays w v n o ms b s h))
       (λ m. (let a = (split-and (is_active w s.books) (names_head w n s) m).0 in
@@ -111,12 +116,14 @@ module _ (w : ℕ) (s : State) (es : List Entry) (d : Deals w s es) where
       ended w (after_effect s (NotStarted w)) (es ++ NotStarted w ∷ []) (gone-member w s.books.members (member-of w s a)) (gone-active w s.books.members)))
 
   -- before the share, and of the worker itself, a collection comes while nothing but a Shutdown was told
-  quiet-collected : (v : ℕ) (g : Ids) → ((a : is_active w s.books ≡ true) → is_quiet (told_to w es) ≡ true) → Kept (Collected v g)
+  quiet-collected : (v : ℕ) (g : Ids) → ((a : is_active w s.books ≡ true) → is_quiet (told_to w es) ≡ true)
+      → Kept (Collected v g)
   quiet-collected v g q =
       let e = Collected v g in
       let u = in_books (λ b. marked (made_collected v) (with_list v g b)) s in
       let stop = unequal v g (listed v s.books) in
-      let marks : (test : Member → Bool) → ((m : Member) → test (made_collected v m) ≡ test m) → has w test (after_effect s e).books.members ≡ has w test s.books.members = λ test k. (
+      let marks : (test : Member → Bool) → ((m : Member) → test (made_collected v m) ≡ test m)
+      → has w test (after_effect s e).books.members ≡ has w test s.books.members = λ test k. (
       let same = has-same w test (made_collected v) s.books.members (λ m. refl) k in
       collecting-keeps (λ (x : State). has w test x.books.members ≡ has w test s.books.members) u v stop same same same (λ n. same)) in
       let asked : asked_of w (after_effect s e).plan.steal ≡ asked_of w s.plan.steal =
@@ -156,7 +163,9 @@ module _ (w : ℕ) (s : State) (es : List Entry) (d : Deals w s es) where
       begun : (i : ℕ) → has_member w (λ m. true) (after_effect s (Start w i)).books ≡ true
       begun i =
           let own : (w == w) ≡ true = grind (arith, nat_tests) in
-          has-more w (λ m. true) s.books.members (started w i) ∙ ap (λ (b : Bool). has w (λ m. true) s.books.members || (b && true)) own ∙ last (has w (λ m. true) s.books.members)
+          has-more w (λ m. true) s.books.members (started w i)
+          ∙ ap (λ (b : Bool). has w (λ m. true) s.books.members || (b && true)) own
+          ∙ last (has w (λ m. true) s.books.members)
         where
           last : (b : Bool) → (b || true) ≡ true
           last true = refl

@@ -23,7 +23,8 @@ pub without-none : (xs : List ℕ) → without [] xs ≡ xs
 without-none [] = refl
 without-none (x ∷ xs) = ap (λ (ys : List ℕ). x ∷ ys) (without-none xs)
 
-pub dealt-append : (size : ℕ) (line : List ℕ) (R G : List Order) (backs : List (List ℕ)) → line_given size line (R ++ G) backs ≡ line_given size (line_given size line R backs) G (left_of R backs)
+pub dealt-append : (size : ℕ) (line : List ℕ) (R G : List Order) (backs : List (List ℕ))
+    → line_given size line (R ++ G) backs ≡ line_given size (line_given size line R backs) G (left_of R backs)
 dealt-append size line [] G backs = refl
 dealt-append size line (o ∷ R) G backs = dealt-append size (line_after size line o backs) R G (answers_left o backs)
 
@@ -52,7 +53,8 @@ no-answers (Steal ns) = refl
 no-answers Shutdown = refl
 
 -- without answers nothing is taken
-pub dealt-unanswered : (size : ℕ) (line : List ℕ) (G : List Order) → line_given size line G [] ≡ line ++ all_given size G
+pub dealt-unanswered : (size : ℕ) (line : List ℕ) (G : List Order)
+    → line_given size line G [] ≡ line ++ all_given size G
 dealt-unanswered size line [] = sym (append-nil line)
 dealt-unanswered size line (o ∷ G) =
     ap (λ (backs : List (List ℕ)). line_given size (line_after size line o []) G backs) (no-answers o)
@@ -61,7 +63,8 @@ dealt-unanswered size line (o ∷ G) =
     ∙ append_assoc line (tests_given size o) (all_given size G)
 
 -- where each steal of the first orders is answered, and no other, the further orders add what they give
-pub dealt-further : (size : ℕ) (R G : List Order) (backs : List (List ℕ)) → length backs ≤ length (steals_asked R) → line_given size [] (R ++ G) backs ≡ line_given size [] R backs ++ all_given size G
+pub dealt-further : (size : ℕ) (R G : List Order) (backs : List (List ℕ)) → length backs ≤ length (steals_asked R)
+    → line_given size [] (R ++ G) backs ≡ line_given size [] R backs ++ all_given size G
 dealt-further size R G backs h =
     dealt-append size [] R G backs
     ∙ ap (λ (bs : List (List ℕ)). line_given size (line_given size [] R backs) G bs) (left-dropped R backs ∙ drop_of_length-le backs h)
@@ -69,7 +72,8 @@ dealt-further size R G backs h =
 
 pub steals-append : (R G : List Order) → steals_asked (R ++ G) ≡ steals_asked R ++ steals_asked G
 steals-append [] G = refl
-steals-append (o ∷ R) G = ap (λ (l : List (List ℕ)). asked_back o ++ l) (steals-append R G) ∙ sym (append_assoc (asked_back o) (steals_asked R) (steals_asked G))
+steals-append (o ∷ R) G = ap (λ (l : List (List ℕ)). asked_back o ++ l) (steals-append R G)
+    ∙ sym (append_assoc (asked_back o) (steals_asked R) (steals_asked G))
 
 -- new tests can be given
 
@@ -77,24 +81,28 @@ among-more : (m n : ℕ) (D : List ℕ) → among m (D ++ n ∷ []) ≡ (among m
 among-more m n [] = grind (arith, nat_tests)
 among-more m n (x ∷ D) = grind (arith, nat_tests, among-more m n D)
 
-pub has_test-more : (m n : ℕ) (line : List LineEntry) → has_test m (line ++ Test n ∷ []) ≡ (has_test m line || (n == m))
+pub has_test-more : (m n : ℕ) (line : List LineEntry)
+    → has_test m (line ++ Test n ∷ []) ≡ (has_test m line || (n == m))
 has_test-more m n [] = grind (arith, nat_tests)
 has_test-more m n (Test x ∷ line) = grind (arith, nat_tests, has_test-more m n line)
 has_test-more m n (Mark ∷ line) = has_test-more m n line
 
-new-tail : (size n : ℕ) (D ns : List ℕ) → list_all (λ m. nat_lt m size && not (among m D)) ns ≡ true → among n ns ≡ false
+new-tail : (size n : ℕ) (D ns : List ℕ) → list_all (λ m. nat_lt m size && not (among m D)) ns ≡ true
+    → among n ns ≡ false
     → list_all (λ m. nat_lt m size && not (among m (D ++ n ∷ []))) ns ≡ true
 new-tail size n D [] h k = refl
 new-tail size n D (m ∷ ns) h k = grind (arith, nat_tests, new-tail size n D ns, among-more m n D, h, k)
 
-pub can_give-new : (size : ℕ) (line : List LineEntry) (D ns : List ℕ) → ((m : ℕ) → has_test m line ≡ among m D) → are_new size D ns ≡ true → can_give size line ns ≡ true
+pub can_give-new : (size : ℕ) (line : List LineEntry) (D ns : List ℕ) → ((m : ℕ) → has_test m line ≡ among m D)
+    → are_new size D ns ≡ true → can_give size line ns ≡ true
 can_give-new size line D [] same h = refl
 can_give-new size line D (n ∷ ns) same h =
     let a = split-and (list_all (λ m. nat_lt m size && not (among m D)) (n ∷ ns)) (all_distinct (n ∷ ns)) h in
     let b = split-and (nat_lt n size && not (among n D)) (list_all (λ m. nat_lt m size && not (among m D)) ns) a.0 in
     let d = split-and (not (among n ns)) (all_distinct ns) a.1 in
     let apart : among n ns ≡ false = grind (arith, nat_tests, d.0) in
-    let here : (nat_lt n size && not (has_test n line)) ≡ true = ap (λ (q : Bool). nat_lt n size && not q) (same n) ∙ b.0 in
+    let here : (nat_lt n size && not (has_test n line)) ≡ true = ap (λ (q : Bool). nat_lt n size && not q) (same n)
+    ∙ b.0 in
     let grown : (m : ℕ) → has_test m (line ++ Test n ∷ []) ≡ among m (D ++ n ∷ []) = λ m. grind (arith, nat_tests, has_test-more m n line, among-more m n D, same m) in
     and here (can_give-new size (line ++ Test n ∷ []) (D ++ n ∷ []) ns grown (and (new-tail size n D ns b.1 apart) d.1))
 
@@ -103,7 +111,8 @@ has_test-mapped m [] = refl
 has_test-mapped m (n ∷ D) = grind (arith, nat_tests, has_test-mapped m D)
 
 -- no test stands twice where new ones come
-pub distinct-more : (D ns : List ℕ) (size : ℕ) → all_distinct D ≡ true → are_new size D ns ≡ true → all_distinct (D ++ ns) ≡ true
+pub distinct-more : (D ns : List ℕ) (size : ℕ) → all_distinct D ≡ true → are_new size D ns ≡ true
+    → all_distinct (D ++ ns) ≡ true
 distinct-more D [] size h k = subst (λ (l : List ℕ). all_distinct l ≡ true) (sym (append-nil D)) h
 distinct-more D (n ∷ ns) size h k =
     let a = split-and (list_all (λ m. nat_lt m size && not (among m D)) (n ∷ ns)) (all_distinct (n ∷ ns)) k in
@@ -120,12 +129,14 @@ distinct-more D (n ∷ ns) size h k =
 
 -- parts of a line
 
-pub drop-mapped : (n : ℕ) (D : List ℕ) (ps : List LineEntry) → n ≤ length D → drop n (map Test D ++ ps) ≡ map Test (drop n D) ++ ps
+pub drop-mapped : (n : ℕ) (D : List ℕ) (ps : List LineEntry) → n ≤ length D
+    → drop n (map Test D ++ ps) ≡ map Test (drop n D) ++ ps
 drop-mapped zero D ps h = refl
 drop-mapped (suc n) [] ps h = absurd (omega (arith, h))
 drop-mapped (suc n) (x ∷ D) ps h = drop-mapped n D ps (omega (arith, h))
 
-pub take-mapped : (n : ℕ) (D : List ℕ) (ps : List LineEntry) → n ≤ length D → take n (map Test D ++ ps) ≡ map Test (take n D)
+pub take-mapped : (n : ℕ) (D : List ℕ) (ps : List LineEntry) → n ≤ length D
+    → take n (map Test D ++ ps) ≡ map Test (take n D)
 take-mapped zero D ps h = refl
 take-mapped (suc n) [] ps h = absurd (omega (arith, h))
 take-mapped (suc n) (x ∷ D) ps h = ap (λ (l : List LineEntry). Test x ∷ l) (take-mapped n D ps (omega (arith, h)))
@@ -146,7 +157,8 @@ marks-end (o ∷ R) G h k =
     none (x ∷ xs) ys e = absurd (differ e)
 
 -- answers after those to the steals so far say nothing of the line
-pub dealt-enough : (size : ℕ) (line : List ℕ) (R : List Order) (backs more : List (List ℕ)) → length backs ≡ length (steals_asked R) → line_given size line R (backs ++ more) ≡ line_given size line R backs
+pub dealt-enough : (size : ℕ) (line : List ℕ) (R : List Order) (backs more : List (List ℕ))
+    → length backs ≡ length (steals_asked R) → line_given size line R (backs ++ more) ≡ line_given size line R backs
 dealt-enough size line [] backs more h = refl
 dealt-enough size line (RunTests ns ∷ R) backs more h = dealt-enough size (line ++ ns) R backs more h
 dealt-enough size line (RunAll ∷ R) backs more h = dealt-enough size (line ++ range_with_len 0 size) R backs more h

@@ -21,7 +21,8 @@ head-longer [] m n h = absurd cc
 head-longer (Test x ∷ l) m n h = h
 head-longer (Mark ∷ l) m n h = absurd cc
 
-pub drop-longer : (k : ℕ) (l m : List LineEntry) (n : ℕ) → head_test (drop k l) ≡ Some n → head_test (drop k (l ++ m)) ≡ Some n
+pub drop-longer : (k : ℕ) (l m : List LineEntry) (n : ℕ) → head_test (drop k l) ≡ Some n
+    → head_test (drop k (l ++ m)) ≡ Some n
 drop-longer zero l m n h = head-longer l m n h
 drop-longer (suc k) [] m n h = absurd cc
 drop-longer (suc k) (p ∷ l) m n h = drop-longer k l m n h
@@ -44,7 +45,8 @@ take-after (suc k) n (x ∷ xs) more h = ap (λ (l : List ℕ). x ∷ l) (take-a
 pub take-next : (k n : ℕ) (xs more : List ℕ) → drop k xs ≡ n ∷ more → take (k + 1) xs ≡ take k xs ++ n ∷ []
 take-next k n xs more h = (let e : suc k ≡ k + 1 = omega arith in subst (λ (j : ℕ). take j xs ≡ take k xs ++ n ∷ []) e (take-after k n xs more h))
 
-pub all-append : (test : ℕ → Bool) (xs ys : List ℕ) → list_all test xs ≡ true → list_all test ys ≡ true → list_all test (xs ++ ys) ≡ true
+pub all-append : (test : ℕ → Bool) (xs ys : List ℕ) → list_all test xs ≡ true → list_all test ys ≡ true
+    → list_all test (xs ++ ys) ≡ true
 all-append test [] ys h k = k
 all-append test (x ∷ xs) ys h k = (let p = split-and (test x) (list_all test xs) h in rw (p.0, all-append test xs ys p.1 k) refl)
 
@@ -58,7 +60,8 @@ low-among : (n x : ℕ) (xs : List ℕ) → list_all (λ y. nat_lt y n) xs ≡ t
 low-among n x [] h k = absurd (differ k)
 low-among n x (y ∷ xs) h k = grind (arith, nat_tests, low-among n x xs, h, k)
 
-all-taken-low : (n k : ℕ) (xs : List ℕ) → list_all (λ y. nat_lt y n) xs ≡ true → list_all (λ y. nat_lt y n) (take k xs) ≡ true
+all-taken-low : (n k : ℕ) (xs : List ℕ) → list_all (λ y. nat_lt y n) xs ≡ true
+    → list_all (λ y. nat_lt y n) (take k xs) ≡ true
 all-taken-low n zero xs h = refl
 all-taken-low n (suc k) [] h = refl
 all-taken-low n (suc k) (x ∷ xs) h = (let p = split-and (nat_lt x n) (list_all (λ y. nat_lt y n) xs) h in rw (p.0, all-taken-low n k xs p.1) refl)
@@ -69,7 +72,8 @@ length-taken (suc k) y [] rest h = absurd cc
 length-taken (suc k) y (x ∷ xs) rest h = ap suc (length-taken k y xs rest h)
 
 -- what stands after a part is not in it
-pub apart-of : (x n : ℕ) (D : List ℕ) → all_distinct D ≡ true → among x (take n D) ≡ true → among x (drop n D) ≡ true → ⊥
+pub apart-of : (x n : ℕ) (D : List ℕ) → all_distinct D ≡ true → among x (take n D) ≡ true → among x (drop n D) ≡ true
+    → ⊥
 apart-of x zero D h p q = differ p
 apart-of x (suc n) [] h p q = differ p
 apart-of x (suc n) (y ∷ D) h p q =
@@ -129,7 +133,8 @@ within-dropped zero x (y ∷ S) more h = omega arith
 within-dropped (suc k) x [] more h = absurd cc
 within-dropped (suc k) x (y ∷ S) more h = (let m = within-dropped k x S more h in omega (arith, m))
 
-pub none-filtered : (ns L : List ℕ) → ((x : ℕ) → among x L ≡ true → among x ns ≡ false) → filter (λ y. among y ns) L ≡ []
+pub none-filtered : (ns L : List ℕ) → ((x : ℕ) → among x L ≡ true → among x ns ≡ false)
+    → filter (λ y. among y ns) L ≡ []
 none-filtered ns [] k = refl
 none-filtered ns (x ∷ L) k =
     let here : among x ns ≡ false = k x (grind (arith, nat_tests)) in

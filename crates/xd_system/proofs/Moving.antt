@@ -52,15 +52,18 @@ record TheMember (w : ℕ) (ms : List Member) (p : Member → Bool) : Type 0 whe
   number : member.worker ≡ w
   only : (test : Member → Bool) → has w test ms ≡ test member
 
-none-numbered : (w : ℕ) (ms : List Member) → among w (numbers ms) ≡ false → (test : Member → Bool) → has w test ms ≡ false
+none-numbered : (w : ℕ) (ms : List Member) → among w (numbers ms) ≡ false → (test : Member → Bool)
+    → has w test ms ≡ false
 none-numbered w [] h test = refl
 none-numbered w (m ∷ ms) h test = grind (arith, nat_tests, none-numbered w ms, h)
 
-none-kept : (w : ℕ) (p : Member → Bool) (ms : List Member) → among w (numbers ms) ≡ false → list_any (λ m. m.worker == w) (filter p ms) ≡ false
+none-kept : (w : ℕ) (p : Member → Bool) (ms : List Member) → among w (numbers ms) ≡ false
+    → list_any (λ m. m.worker == w) (filter p ms) ≡ false
 none-kept w p [] h = refl
 none-kept w p (m ∷ ms) h = grind (arith, nat_tests, none-kept w p ms, h)
 
-the-member : (w : ℕ) (p : Member → Bool) (ms : List Member) → all_distinct (numbers ms) ≡ true → list_any (λ m. m.worker == w) (filter p ms) ≡ true → TheMember w ms p
+the-member : (w : ℕ) (p : Member → Bool) (ms : List Member) → all_distinct (numbers ms) ≡ true
+    → list_any (λ m. m.worker == w) (filter p ms) ≡ true → TheMember w ms p
 the-member w p [] d h = absurd (differ h)
 the-member w p (m ∷ ms) d h =
     let q = split-and (not (among m.worker (numbers ms))) (all_distinct (numbers ms)) d in
@@ -75,19 +78,24 @@ the-member w p (m ∷ ms) d h =
     ]
   where
     later : (m.worker == w) ≡ false → (b : Bool) → p m ≡ b → list_any (λ x. x.worker == w) (filter p ms) ≡ true
-    later e true k = sym (ap (λ (b : Bool). b || list_any (λ x. x.worker == w) (filter p ms)) e) ∙ sym (ap (λ (b : Bool). list_any (λ x. x.worker == w) (if b then m ∷ filter p ms else filter p ms)) k) ∙ h
-    later e false k = sym (ap (λ (b : Bool). list_any (λ x. x.worker == w) (if b then m ∷ filter p ms else filter p ms)) k) ∙ h
+    later e true k = sym (ap (λ (b : Bool). b || list_any (λ x. x.worker == w) (filter p ms)) e)
+        ∙ sym (ap (λ (b : Bool). list_any (λ x. x.worker == w) (if b then m ∷ filter p ms else filter p ms)) k) ∙ h
+    later e false k = sym (ap (λ (b : Bool). list_any (λ x. x.worker == w) (if b then m ∷ filter p ms else filter p ms)) k)
+        ∙ h
 
-    here : (m.worker == w) ≡ true → not (among m.worker (numbers ms)) ≡ true → ((p m ≡ true) ⊎ (p m ≡ false)) → TheMember w (m ∷ ms) p
+    here : (m.worker == w) ≡ true → not (among m.worker (numbers ms)) ≡ true → ((p m ≡ true) ⊎ (p m ≡ false))
+        → TheMember w (m ∷ ms) p
     here e apart holds =
         let same : m.worker ≡ w = grind (arith, nat_tests, e) in
-        let none : among w (numbers ms) ≡ false = ap (λ (v : ℕ). among v (numbers ms)) (sym same) ∙ not_true (among m.worker (numbers ms)) apart in
+        let none : among w (numbers ms) ≡ false = ap (λ (v : ℕ). among v (numbers ms)) (sym same)
+        ∙ not_true (among m.worker (numbers ms)) apart in
         elim holds [
           | inl k ↦ record {
             member = m;
             holds = k;
             number = same;
-            only = λ test. ap (λ (b : Bool). (b && test m) || has w test ms) e ∙ ap (λ (b : Bool). test m || b) (none-numbered w ms none test) ∙ plain (test m);
+            only = λ test. ap (λ (b : Bool). (b && test m) || has w test ms) e
+                ∙ ap (λ (b : Bool). test m || b) (none-numbered w ms none test) ∙ plain (test m);
           }
           | inr k ↦ absurd (differ (sym (ap (λ (b : Bool). list_any (λ x. x.worker == w) (if b then m ∷ filter p ms else filter p ms)) k ∙ none-kept w p ms none) ∙ h))
         ]
@@ -158,25 +166,30 @@ module _ (settings : Settings) (taken : List News) (w : ℕ) (l : LinkNow) (prop
       is-ready q =
           let marks = marks-now settings taken w l proper h active in
           let echo = echo-now settings taken w l proper h active in
-          let ready : was_ready w r.state.books ≡ true = marks.ready ∙ sym echo.ready ∙ ap (list_any is_ready_news) told in
+          let ready : was_ready w r.state.books ≡ true = marks.ready ∙ sym echo.ready
+          ∙ ap (list_any is_ready_news) told in
           differ (sym (not_true own.member.ready q) ∙ sym (own.only (λ m. m.ready)) ∙ ready)
 
       is-collected : not own.member.collected ≡ true → ⊥
       is-collected q =
           let marks = marks-now settings taken w l proper h active in
           let echo = echo-now settings taken w l proper h active in
-          let collected : has_collected w r.state.books ≡ true = marks.collected ∙ sym echo.collected ∙ ap (list_any is_collected) told ∙ k.is.collected in
+          let collected : has_collected w r.state.books ≡ true = marks.collected ∙ sym echo.collected
+          ∙ ap (list_any is_collected) told ∙ k.is.collected in
           differ (sym (not_true own.member.collected q) ∙ sym (own.only (λ m. m.collected)) ∙ collected)
 
       is-shut : own.member.shut ≡ true → ⊥
       is-shut q =
           let deal = deal-now settings taken w l proper h active in
-          let shut : list_any is_shutdown R ≡ true = ap (list_any is_shutdown) (sym all) ∙ sym deal.marks ∙ own.only (λ m. m.shut) ∙ q in
+          let shut : list_any is_shutdown R ≡ true = ap (list_any is_shutdown) (sym all) ∙ sym deal.marks
+          ∙ own.only (λ m. m.shut) ∙ q in
           let row = line_given size [] R (answers_in T) in
           let j = length (ends_in T) in
           let left_is : left (call_after l.given) ≡ map Test (drop j row) ++ Mark ∷ [] =
-          ap (λ (z : List LineEntry). drop (call_after l.given).ended z) k.is.line_is ∙ ap (λ (i : ℕ). drop i (map Test row ++ mark_of R)) k.is.ended_is
-          ∙ drop-mapped j row (mark_of R) (count-taken j row (ap length k.is.ended_first)) ∙ ap (λ (b : Bool). map Test (drop j row) ++ (if b then Mark ∷ [] else [])) shut in
+          ap (λ (z : List LineEntry). drop (call_after l.given).ended z) k.is.line_is
+          ∙ ap (λ (i : ℕ). drop i (map Test row ++ mark_of R)) k.is.ended_is
+          ∙ drop-mapped j row (mark_of R) (count-taken j row (ap length k.is.ended_first))
+          ∙ ap (λ (b : Bool). map Test (drop j row) ++ (if b then Mark ∷ [] else [])) shut in
           marked-left (drop j row) (subst IsIdle left_is waits)
 
       holds-two : nat_le 2 (length (held own.member.worker r.state.books.table)) ≡ true → ⊥
@@ -185,12 +198,15 @@ module _ (settings : Settings) (taken : List News) (w : ℕ) (l : LinkNow) (prop
           let places = called-places settings taken w l proper h active [] none in
           let back : items_named slot [] r.state.plan ≡ [] = named-none slot r.state.plan in
           let held_is : held w r.state.books.table ≡ items_named slot (tests_in_line (left (call_after l.given)) ++ []) r.state.plan =
-          sym (ap (λ (z : List ℕ). without z (held w r.state.books.table)) back ∙ without-none (held w r.state.books.table)) ∙ places
+          sym (ap (λ (z : List ℕ). without z (held w r.state.books.table)) back ∙ without-none (held w r.state.books.table))
+          ∙ places
           ∙ ap (λ (z : List Order). items_named slot (tests_in_line (left (call_after l.given)) ++ all_given (call_after l.given).size z) r.state.plan) last in
           let count : length (held w r.state.books.table) ≡ length (tests_in_line (left (call_after l.given))) =
-          ap length held_is ∙ length-named slot (tests_in_line (left (call_after l.given)) ++ []) r.state.plan ∙ ap length (append-nil (tests_in_line (left (call_after l.given)))) in
+          ap length held_is ∙ length-named slot (tests_in_line (left (call_after l.given)) ++ []) r.state.plan
+          ∙ ap length (append-nil (tests_in_line (left (call_after l.given)))) in
           let few = few-left (left (call_after l.given)) waits in
-          let two : nat_le 2 (length (held w r.state.books.table)) ≡ true = ap (λ (v : ℕ). nat_le 2 (length (held v r.state.books.table))) (sym own.number) ∙ q in
+          let two : nat_le 2 (length (held w r.state.books.table)) ≡ true = ap (λ (v : ℕ). nat_le 2 (length (held v r.state.books.table))) (sym own.number)
+          ∙ q in
           grind (arith, nat_tests, count, few, two)
 
       is-asked : steal_open_to own.member.worker r.state ≡ true → ⊥
@@ -198,11 +214,14 @@ module _ (settings : Settings) (taken : List News) (w : ℕ) (l : LinkNow) (prop
           let deal = deal-now settings taken w l proper h active in
           let echo = echo-now settings taken w l proper h active in
           let count : length (answers_by w r.entries) ≡ length (steals_asked (told_to w r.entries)) =
-          ap length (sym echo.answers ∙ ap answers_in told) ∙ k.is.answered ∙ ap (λ (z : List Order). length (steals_asked z)) (sym all) in
-          let nothing : asked_of w r.state.plan.steal ≡ [] = deal.open_steal ∙ all-dropped (length (answers_by w r.entries)) (steals_asked (told_to w r.entries)) (omega (arith, count)) in
+          ap length (sym echo.answers ∙ ap answers_in told) ∙ k.is.answered
+          ∙ ap (λ (z : List Order). length (steals_asked z)) (sym all) in
+          let nothing : asked_of w r.state.plan.steal ≡ [] = deal.open_steal
+          ∙ all-dropped (length (answers_by w r.entries)) (steals_asked (told_to w r.entries)) (omega (arith, count)) in
           go r.state.plan.steal nothing (ap (λ (v : ℕ). steal_open_to v r.state) (sym own.number) ∙ q)
         where
-          go : (o : Option UnansweredSteal) → asked_of w o ≡ [] → elim o as (λ _. Bool) [ None ↦ false | Some a ↦ a.worker == w ] ≡ true → ⊥
+          go : (o : Option UnansweredSteal) → asked_of w o ≡ []
+              → elim o as (λ _. Bool) [ None ↦ false | Some a ↦ a.worker == w ] ≡ true → ⊥
           go None e z = differ z
           go (Some a) e z = (let one : a.tests ∷ [] ≡ [] = sym (ap (λ (b : Bool). if b then a.tests ∷ [] else []) z) ∙ e in cc)
 
@@ -229,7 +248,8 @@ module _ (settings : Settings) (taken : List News) (w : ℕ) (l : LinkNow) (prop
       | inr a ↦ absurd (nobody-owes size k a)
     ]
     moves size (inr (inr k)) =
-        let unfinished : list_any is_last_told (said_by w taken) ≡ false = ap (λ (t : List News). list_any is_last_told (said_by w t)) (sym (run-taken settings taken)) ∙ (inv-honest settings taken w l proper h).unfinished active in
+        let unfinished : list_any is_last_told (said_by w taken) ≡ false = ap (λ (t : List News). list_any is_last_told (said_by w t)) (sym (run-taken settings taken))
+        ∙ (inv-honest settings taken w l proper h).unfinished active in
         absurd (differ (sym unfinished ∙ ap (list_any is_last_told) told ∙ k.said))
 
     moves-called : IsMoving settings taken w l
@@ -250,11 +270,14 @@ module _ (settings : Settings) (taken : List News) (w : ℕ) (l : LinkNow) (prop
       filled : (x : What) (xs ys : List What) → ys ≡ x ∷ xs → ys ≡ [] → ⊥
       filled x xs ys e k = (let z : x ∷ xs ≡ [] = sym e ∙ k in cc)
 
-      by-orders : tells l.given ≡ said_by w taken ++ [] → (G : List Order) → h.orders.0 ≡ G → IsMoving settings taken w l
+      by-orders : tells l.given ≡ said_by w taken ++ [] → (G : List Order) → h.orders.0 ≡ G
+          → IsMoving settings taken w l
       by-orders none [] e = moves-called none e
       by-orders none (o ∷ os) e = OrderOnWay (λ k. (let z : o ∷ os ≡ [] = sym e ∙ sym (orders-left settings taken w l proper h active) ∙ k in absurd cc))
 
-      by-news : tells l.given ≡ said_by w taken ++ (told-split settings taken w l proper h active whole).0 → (L : List What) → (told-split settings taken w l proper h active whole).0 ≡ L → IsMoving settings taken w l
+      by-news : tells l.given ≡ said_by w taken ++ (told-split settings taken w l proper h active whole).0
+          → (L : List What) → (told-split settings taken w l proper h active whole).0 ≡ L
+          → IsMoving settings taken w l
       by-news t [] e = by-orders (t ∙ ap (λ (z : List What). said_by w taken ++ z) e) h.orders.0 refl
       by-news t (x ∷ xs) e = NewsOnWay (λ k. filled x xs (news_on_way taken w l) (news-left settings taken w l proper h active (told-split settings taken w l proper h active whole) ∙ e) k)
 

@@ -68,18 +68,23 @@ module _ (settings : Settings) (taken : List News) (w : ℕ) (l : LinkNow) (prop
   acts-at pre = at-run settings (run_of settings pre) (Acts w) (keeps_acts settings w) (sound-run settings pre proper) (acts-none settings w)
 
   -- all entries, by those so far
-  entries-by : (pre : List News) (n : News) (post : List News) → taken ≡ pre ++ n ∷ post → (more : List Entry) × ((run_of settings taken).entries ≡ (run_of settings pre).entries ++ (added (run_of settings pre) (input_of (run_of settings pre) n) ++ more))
+  entries-by : (pre : List News) (n : News) (post : List News) → taken ≡ pre ++ n ∷ post
+      → (more : List Entry) × ((run_of settings taken).entries ≡ (run_of settings pre).entries ++ (added (run_of settings pre) (input_of (run_of settings pre) n) ++ more))
   entries-by pre n post split =
       let r = run_of settings pre in
       let f = entries-fold (after_news r n) post in
       let is : run_of settings taken ≡ fold after_news (after_news r n) post =
-      ap (run_of settings) (split ∙ sym (append_assoc pre (n ∷ []) post)) ∙ fold-append after_news (begun_run settings) (pre ++ n ∷ []) post ∙ ap (λ (q : SoFar). fold after_news q post) (run-more settings pre n) in
+      ap (run_of settings) (split ∙ sym (append_assoc pre (n ∷ []) post))
+      ∙ fold-append after_news (begun_run settings) (pre ++ n ∷ []) post
+      ∙ ap (λ (q : SoFar). fold after_news q post) (run-more settings pre n) in
       (f.0, ap (λ (q : SoFar). q.entries) is ∙ f.1 ∙ ap (λ (es : List Entry). es ++ f.0) (entries-added r (input_of r n)) ∙ append_assoc r.entries (added r (input_of r n)) f.0)
 
   -- where it is active no more, it finished with this
-  finishes : (pre : List News) (n : News) (post : List News) → taken ≡ pre ++ n ∷ post → HonestSoFar w (run_of settings pre)
+  finishes : (pre : List News) (n : News) (post : List News) → taken ≡ pre ++ n ∷ post
+      → HonestSoFar w (run_of settings pre)
       → ((is_active w (run_of settings pre).state.books ≡ true) ⊎ (has_member w (λ m. true) (run_of settings pre).state.books ≡ false))
-      → has_member w (λ m. true) (run_of settings (pre ++ n ∷ [])).state.books ≡ true → is_active w (run_of settings (pre ++ n ∷ [])).state.books ≡ false → Split settings taken w
+      → has_member w (λ m. true) (run_of settings (pre ++ n ∷ [])).state.books ≡ true
+      → is_active w (run_of settings (pre ++ n ∷ [])).state.books ≡ false → Split settings taken w
   finishes pre n post split sofar before m2 a2 = go (input_of r n) refl (cases_of (n.worker == w))
     where
       r : SoFar
@@ -105,30 +110,38 @@ module _ (settings : Settings) (taken : List News) (w : ℕ) (l : LinkNow) (prop
       some-added : list_any (is_end_of w) (added (run_of settings pre) (input_of (run_of settings pre) n)) ≡ true
       some-added =
           let q = run_of settings pre in
-          let e : (run_of settings (pre ++ n ∷ [])).entries ≡ q.entries ++ added q (input_of q n) = ap (λ (z : SoFar). z.entries) (run-more settings pre n) ∙ entries-added q (input_of q n) in
-          sym (ap (λ (b : Bool). b || list_any (is_end_of w) (added q (input_of q n))) none-before) ∙ sym (list_any-append (is_end_of w) q.entries (added q (input_of q n))) ∙ sym (ap (list_any (is_end_of w)) e) ∙ some-after
+          let e : (run_of settings (pre ++ n ∷ [])).entries ≡ q.entries ++ added q (input_of q n) = ap (λ (z : SoFar). z.entries) (run-more settings pre n)
+          ∙ entries-added q (input_of q n) in
+          sym (ap (λ (b : Bool). b || list_any (is_end_of w) (added q (input_of q n))) none-before)
+          ∙ sym (list_any-append (is_end_of w) q.entries (added q (input_of q n)))
+          ∙ sym (ap (list_any (is_end_of w)) e) ∙ some-after
 
       ends : (e : Entry) → input_of (run_of settings pre) n ≡ Some e → is_end_of w e ≡ true
       ends e q =
           let z = run_of settings pre in
           let none = outputs-end w (after_effect z.state e) (outputs z.state e) (outputs-orderly settings z n e (sound-run settings pre proper) q) in
-          sym (or-false (is_end_of w e)) ∙ sym (ap (λ (b : Bool). is_end_of w e || b) none) ∙ sym (ap (λ (o : Option Entry). list_any (is_end_of w) (added z o)) q) ∙ some-added
+          sym (or-false (is_end_of w e)) ∙ sym (ap (λ (b : Bool). is_end_of w e || b) none)
+          ∙ sym (ap (λ (o : Option Entry). list_any (is_end_of w) (added z o)) q) ∙ some-added
 
-      not-other : (e : Entry) → input_of (run_of settings pre) n ≡ Some e → is_end_of w e ≡ true → (n.worker == w) ≡ false → ⊥
+      not-other : (e : Entry) → input_of (run_of settings pre) n ≡ Some e → is_end_of w e ≡ true
+          → (n.worker == w) ≡ false → ⊥
       not-other e q z other = by (is_active n.worker (run_of settings pre).state.books) refl
         where
           by : (b : Bool) → is_active n.worker (run_of settings pre).state.books ≡ b → ⊥
           by true k =
               let s = run_of settings pre in
               let is : meaning_of n.worker (log_of (said_by n.worker s.taken)) (spent_by s.entries) s.state n.what ≡ Some e =
-              sym (ap (λ (c : Bool). if c then meaning_of n.worker (log_of (said_by n.worker s.taken)) (spent_by s.entries) s.state n.what else None) k) ∙ q in
+              sym (ap (λ (c : Bool). if c then meaning_of n.worker (log_of (said_by n.worker s.taken)) (spent_by s.entries) s.state n.what else None) k)
+              ∙ q in
               let none = other-end w n.worker (log_of (said_by n.worker s.taken)) (spent_by s.entries) s.state n.what other in
               differ (sym (sym (ap (λ (o : Option Entry). list_any (is_end_of w) (entry_of o)) is) ∙ none) ∙ ap (λ (c : Bool). c || false) z)
           by false k =
               let s = run_of settings pre in
-              let is : None ≡ Some e = sym (ap (λ (c : Bool). if c then meaning_of n.worker (log_of (said_by n.worker s.taken)) (spent_by s.entries) s.state n.what else None) k) ∙ q in cc
+              let is : None ≡ Some e = sym (ap (λ (c : Bool). if c then meaning_of n.worker (log_of (said_by n.worker s.taken)) (spent_by s.entries) s.state n.what else None) k)
+              ∙ q in cc
 
-      go : (o : Option Entry) → input_of (run_of settings pre) n ≡ o → (((n.worker == w) ≡ true) ⊎ ((n.worker == w) ≡ false)) → Split settings taken w
+      go : (o : Option Entry) → input_of (run_of settings pre) n ≡ o
+          → (((n.worker == w) ≡ true) ⊎ ((n.worker == w) ≡ false)) → Split settings taken w
       go None q own = absurd (differ (ap (λ (o : Option Entry). list_any (is_end_of w) (added (run_of settings pre) o)) (sym q) ∙ some-added))
       go (Some e) q (inr other) = absurd (not-other e q (ends e q) other)
       go (Some e) q (inl own) =
@@ -144,7 +157,9 @@ module _ (settings : Settings) (taken : List News) (w : ℕ) (l : LinkNow) (prop
           ] in
           record { pre = pre; news = n; post = post; split = split; own = own; sofar = sofar; active = active; input = q ∙ ap Some is }
 
-  find : (post pre : List News) → taken ≡ pre ++ post → HonestSoFar w (run_of settings pre) → ((is_active w (run_of settings pre).state.books ≡ true) ⊎ (has_member w (λ m. true) (run_of settings pre).state.books ≡ false)) → Split settings taken w
+  find : (post pre : List News) → taken ≡ pre ++ post → HonestSoFar w (run_of settings pre)
+      → ((is_active w (run_of settings pre).state.books ≡ true) ⊎ (has_member w (λ m. true) (run_of settings pre).state.books ≡ false))
+      → Split settings taken w
   find [] pre e sofar before =
       let same : taken ≡ pre = e ∙ append-nil pre in
       elim before [
@@ -193,7 +208,8 @@ module _ (settings : Settings) (taken : List News) (w : ℕ) (l : LinkNow) (prop
     is-last = says-finished w (log_of (said_by w r.taken)) (spent_by r.entries) r.state k.news.what (sym (input-own settings r k.news sound w k.own k.active) ∙ k.input)
 
     said-all : said_by w taken ≡ said ++ what.Finished ∷ said_by w k.post
-    said-all = ap (said_by w) k.split ∙ said-join w pre (k.news ∷ k.post) ∙ ap (λ (z : List What). said ++ z) (said-join w (k.news ∷ []) k.post ∙ ap (λ (z : List What). z ++ said_by w k.post) (said-own w k.news k.own ∙ ap (λ (x : What). x ∷ []) is-last))
+    said-all = ap (said_by w) k.split ∙ said-join w pre (k.news ∷ k.post)
+        ∙ ap (λ (z : List What). said ++ z) (said-join w (k.news ∷ []) k.post ∙ ap (λ (z : List What). z ++ said_by w k.post) (said-own w k.news k.own ∙ ap (λ (x : What). x ∷ []) is-last))
 
     told-so : (later : List What) × (told_so_far l ≡ said ++ what.Finished ∷ later)
     told-so = elim (took-cases l.whole (said_by w taken) (told_so_far l) h.news) [
@@ -202,7 +218,8 @@ module _ (settings : Settings) (taken : List News) (w : ℕ) (l : LinkNow) (prop
       | inr (inr e) ↦ absurd (none (at-last said (said_by w k.post) [] what.Finished what.NotStarted (sym said-all ∙ e)))
     ]
       where
-        cut : IsCutShort (said_by w taken) (told_so_far l) → (later : List What) × (told_so_far l ≡ said ++ what.Finished ∷ later)
+        cut : IsCutShort (said_by w taken) (told_so_far l)
+            → (later : List What) × (told_so_far l ≡ said ++ what.Finished ∷ later)
         cut c = elim (at-last said (said_by w k.post) c.heard what.Finished (what.Gone c.cause) (sym said-all ∙ c.are)) [
           | inl a ↦ (a.0 ++ c.begins.0, c.begins.1 ∙ ap (λ (z : List What). z ++ c.begins.0) a.1 ∙ append_assoc said (what.Finished ∷ a.0) c.begins.0)
           | inr a ↦ absurd (let z : what.Finished ≡ what.Gone c.cause = a.0 in cc)
@@ -212,7 +229,8 @@ module _ (settings : Settings) (taken : List News) (w : ℕ) (l : LinkNow) (prop
         empty [] ys x e = cc
         empty (y ∷ xs) ys x e = cc
 
-        none : ((later : List What) × ([] ≡ said ++ what.Finished ∷ later)) ⊎ ((what.Finished ≡ what.NotStarted) × ([] ≡ said)) → ⊥
+        none : ((later : List What) × ([] ≡ said ++ what.Finished ∷ later)) ⊎ ((what.Finished ≡ what.NotStarted) × ([] ≡ said))
+            → ⊥
         none (inl a) = empty said a.0 what.Finished a.1
         none (inr a) = (let z : what.Finished ≡ what.NotStarted = a.0 in cc)
 
@@ -226,7 +244,8 @@ module _ (settings : Settings) (taken : List News) (w : ℕ) (l : LinkNow) (prop
         empty [] e = cc
         empty (y ∷ xs) e = cc
 
-        go : (b : Bool) → l.called ≡ b → (if b then tells l.given else []) ≡ said ++ what.Finished ∷ told-so.0 → tells l.given ≡ said ++ what.Finished ∷ told-so.0
+        go : (b : Bool) → l.called ≡ b → (if b then tells l.given else []) ≡ said ++ what.Finished ∷ told-so.0
+            → tells l.given ≡ said ++ what.Finished ∷ told-so.0
         go true e q = q
         go false e q = absurd (empty said q)
 
@@ -237,11 +256,14 @@ module _ (settings : Settings) (taken : List News) (w : ℕ) (l : LinkNow) (prop
         let es = r.entries ++ last ∷ [] in
         let more = outputs r.state last ++ by.0 in
         let entries : (run_of settings taken).entries ≡ es ++ more =
-        by.1 ∙ ap (λ (o : Option Entry). r.entries ++ (added r o ++ by.0)) k.input ∙ sym (append_assoc r.entries (last ∷ []) more) in
+        by.1 ∙ ap (λ (o : Option Entry). r.entries ++ (added r o ++ by.0)) k.input
+        ∙ sym (append_assoc r.entries (last ∷ []) more) in
         let same : (w == w) ≡ true = grind (arith, nat_tests) in
         let here : Silent w (told_to w r.entries) (outcomes_by w r.entries) (after_effect r.state last) es = record {
-          member = has-same w (λ m. true) (made_gone w) r.state.books.members (λ m. refl) (λ m. refl) ∙ has-member w (λ m. m.active) r.state.books.members k.active;
-          gone = has-cleared w w (λ m. m.active) (made_gone w) r.state.books.members (λ m. refl) (λ m. refl) ∙ ap (λ (b : Bool). not b && has w (λ m. m.active) r.state.books.members) same;
+          member = has-same w (λ m. true) (made_gone w) r.state.books.members (λ m. refl) (λ m. refl)
+              ∙ has-member w (λ m. m.active) r.state.books.members k.active;
+          gone = has-cleared w w (λ m. m.active) (made_gone w) r.state.books.members (λ m. refl) (λ m. refl)
+              ∙ ap (λ (b : Bool). not b && has w (λ m. m.active) r.state.books.members) same;
           told = filter_map-append (order_told w) r.entries (last ∷ []) ∙ append-nil (told_to w r.entries);
           dones = filter_map-append (outcome_in w) r.entries (last ∷ []) ∙ append-nil (outcomes_by w r.entries);
         } in
@@ -291,7 +313,9 @@ module _ (settings : Settings) (taken : List News) (w : ℕ) (l : LinkNow) (prop
 
     whole : (size : ℕ) → IsDone size l.given → tells l.given ≡ said ++ what.Finished ∷ []
     whole size d =
-        let c : list_any is_collected (tells l.given) ≡ true = ap (list_any is_collected) tells-are ∙ list_any-append is_collected said (what.Finished ∷ told-so.0) ∙ ap (λ (b : Bool). b || list_any is_collected (what.Finished ∷ told-so.0)) collected in
+        let c : list_any is_collected (tells l.given) ≡ true = ap (list_any is_collected) tells-are
+        ∙ list_any-append is_collected said (what.Finished ∷ told-so.0)
+        ∙ ap (λ (b : Bool). b || list_any is_collected (what.Finished ∷ told-so.0)) collected in
         let f = d.finishes c in
         elim (at-last said told-so.0 f.first what.Finished what.Finished (sym tells-are ∙ f.are)) [
           | inl a ↦ absurd (differ (sym f.unfinished ∙ ap (list_any is_last_told) a.1 ∙ any-last said a.0 what.Finished refl))
@@ -304,11 +328,14 @@ module _ (settings : Settings) (taken : List News) (w : ℕ) (l : LinkNow) (prop
         let d = done c.0 c.1.call in
         let T = tells l.given in
         let outcomes_are : outcomes_in T ≡ outcomes l.given = told-dones c.0 l.given h.comes c.1.calls in
-        let dones_are : outcomes_in T ≡ outcomes_in said = ap outcomes_in (whole c.0 d) ∙ filter_map-append outcome_of_news said (what.Finished ∷ []) ∙ append-nil (outcomes_in said) in
+        let dones_are : outcomes_in T ≡ outcomes_in said = ap outcomes_in (whole c.0 d)
+        ∙ filter_map-append outcome_of_news said (what.Finished ∷ []) ∙ append-nil (outcomes_in said) in
         let reported = at-run settings (run_of settings taken) (Reported settings w) (keeps_reported settings w) (sound-run settings taken proper) (reported-none settings w) in
         record {
-          reports_are = reported.reports_are alive ∙ ap (results w (run_of settings taken).state) (silent.dones ∙ sym echo.dones ∙ sym dones_are ∙ outcomes_are);
-          each_ended = ap (map (λ (p : ℕ × Outcome). p.0)) (sym outcomes_are) ∙ ended-dones T ∙ sym (started-ended c.0 l.given d);
+          reports_are = reported.reports_are alive
+              ∙ ap (results w (run_of settings taken).state) (silent.dones ∙ sym echo.dones ∙ sym dones_are ∙ outcomes_are);
+          each_ended = ap (map (λ (p : ℕ × Outcome). p.0)) (sym outcomes_are) ∙ ended-dones T
+              ∙ sym (started-ended c.0 l.given d);
         }
 
 none-active : (w : ℕ) (ms : List Member) → list_any (λ m. m.active) ms ≡ false → has w (λ m. m.active) ms ≡ false
@@ -319,7 +346,8 @@ pub reports_its_tests : (settings : Settings) (taken : List News) (links : ℕ �
     → ((w : ℕ) → has_member w (λ m. true) (run_of settings taken).state.books ≡ true → IsHonestAt settings taken w (links w))
     → list_any is_death (run_of settings taken).entries ≡ false
     → is_over (run_of settings taken).state.books ≡ true → is_stopped (run_of settings taken).state.books ≡ false
-    → (w : ℕ) → has_member w (λ m. true) (run_of settings taken).state.books ≡ true → ReportsItsTests (run_of settings taken) settings w (links w).given
+    → (w : ℕ) → has_member w (λ m. true) (run_of settings taken).state.books ≡ true
+    → ReportsItsTests (run_of settings taken) settings w (links w).given
 reports_its_tests settings taken links proper honest alive over unstopped w member =
     let r = run_of settings taken in
     let quiet = (split-and (is_shutting r.state.books) (not (some_active r.state.books)) over).1 in

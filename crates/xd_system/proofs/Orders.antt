@@ -20,7 +20,9 @@ use Rattle.xd_system.proofs.Lines.{left_of}
 
 -- one order more
 
-pub fair-more : (size : ℕ) (line : List ℕ) (R : List Order) (o : Order) (backs : List (List ℕ)) → are_fair size line R backs ≡ true → may_be_told size (line_given size line R backs) o (left_of R backs) ≡ true → are_fair size line (R ++ o ∷ []) backs ≡ true
+pub fair-more : (size : ℕ) (line : List ℕ) (R : List Order) (o : Order) (backs : List (List ℕ))
+    → are_fair size line R backs ≡ true → may_be_told size (line_given size line R backs) o (left_of R backs) ≡ true
+    → are_fair size line (R ++ o ∷ []) backs ≡ true
 fair-more size line [] o backs f h = and h refl
 fair-more size line (p ∷ R) o backs f h =
     let q = split-and (may_be_told size line p backs) (are_fair size (line_after size line p backs) R (answers_left p backs)) f in
@@ -45,8 +47,10 @@ marks-more (p ∷ R) o h =
     second true b k = absurd (differ (sym k))
     second false b k = k
 
-pub shut-same : (R : List Order) (o : Order) → is_shutdown o ≡ false → list_any is_shutdown (R ++ o ∷ []) ≡ list_any is_shutdown R
-shut-same R o h = list_any-append is_shutdown R (o ∷ []) ∙ ap (λ (b : Bool). list_any is_shutdown R || (b || false)) h ∙ none (list_any is_shutdown R)
+pub shut-same : (R : List Order) (o : Order) → is_shutdown o ≡ false
+    → list_any is_shutdown (R ++ o ∷ []) ≡ list_any is_shutdown R
+shut-same R o h = list_any-append is_shutdown R (o ∷ []) ∙ ap (λ (b : Bool). list_any is_shutdown R || (b || false)) h
+    ∙ none (list_any is_shutdown R)
   where
     none : (b : Bool) → (b || false) ≡ b
     none true = refl
@@ -54,7 +58,8 @@ shut-same R o h = list_any-append is_shutdown R (o ∷ []) ∙ ap (λ (b : Bool)
 
 -- seats
 
-pub held-grown : (w : ℕ) (items : List ℕ) (ss : List Seat) → has_seat w ss ≡ true → held_in w (at_seat w (λ s. record s { held = s.held ++ items }) ss) ≡ held_in w ss ++ items
+pub held-grown : (w : ℕ) (items : List ℕ) (ss : List Seat) → has_seat w ss ≡ true
+    → held_in w (at_seat w (λ s. record s { held = s.held ++ items }) ss) ≡ held_in w ss ++ items
 held-grown w items [] h = absurd (differ h)
 held-grown w items (s ∷ ss) h = grind (arith, nat_tests, held-grown w items ss, h)
 
@@ -63,7 +68,8 @@ held-grown w items (s ∷ ss) h = grind (arith, nat_tests, held-grown w items ss
 pub in-pool : (x : ℕ) (t : Table) → among x t.pool ≡ true → 1 ≤ times x t.pool
 in-pool x t h = among-times x t.pool h
 
-pub apart-pool : (s : State) (w x : ℕ) → Placed s → among x s.books.table.pool ≡ true → (among x (held w s.books.table) ≡ false) × (among x s.books.table.reported ≡ false)
+pub apart-pool : (s : State) (w x : ℕ) → Placed s → among x s.books.table.pool ≡ true
+    → (among x (held w s.books.table) ≡ false) × (among x s.books.table.reported ≡ false)
 apart-pool s w x k h =
     let t = s.books.table in
     let once = at_most_once s k x in
@@ -74,7 +80,8 @@ apart-pool s w x k h =
     none xs z = elim (cases_of (among x xs)) [ inl a ↦ absurd (let m = among-times x xs a in omega (arith, m, z)) | inr a ↦ a ]
 
 -- an item of the pool is one of the run
-pub low-pool : (s : State) (x : ℕ) → Placed s → s.books.shared ≡ true → among x s.books.table.pool ≡ true → x < total s.plan
+pub low-pool : (s : State) (x : ℕ) → Placed s → s.books.shared ≡ true → among x s.books.table.pool ≡ true
+    → x < total s.plan
 low-pool s x k shared h = elim (cases_of (nat_lt x (total s.plan))) [
   | inl a ↦ grind (arith, nat_tests, a)
   | inr a ↦ (let e : times x (all_items s.books.table) ≡ times x (range_with_len 0 (total s.plan)) = k.whole x ∙ ap (λ (b : Bool). if b then times x (range_with_len 0 (total s.plan)) else 0) shared in

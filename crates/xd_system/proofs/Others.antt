@@ -40,7 +40,8 @@ pub record Stays (w : ℕ) (s t : State) : Type 0 where
   pub member : has_member w (λ m. true) t.books ≡ has_member w (λ m. true) s.books
   pub active : is_active w t.books ≡ is_active w s.books
 
-pub deals-stay : (w : ℕ) (s t : State) (es fs : List Entry) → Apart w es fs → Stays w s t → Deals w s es → Deals w t fs
+pub deals-stay : (w : ℕ) (s t : State) (es fs : List Entry) → Apart w es fs → Stays w s t → Deals w s es
+    → Deals w t fs
 deals-stay w s t es fs a k d = record {
   unstarted = λ h. (let n = d.unstarted (sym k.member ∙ h) in record { told = a.told ∙ n.told; answers = a.answers ∙ n.answers; ended = a.ended ∙ n.ended });
   unasked = λ h. k.frame.asked ∙ d.unasked (sym k.member ∙ h);
@@ -52,21 +53,27 @@ deals-stay w s t es fs a k d = record {
 abbrev named_by : ModeKind → List ℕ → ℕ → List ℕ → List ℕ
 named_by mode sizes slot ns = if is_each mode then map (λ i. (if is_each mode then sum (take slot sizes) else 0) + i) ns else ns
 
-pub names-same : (w : ℕ) (s t : State) (ns : List ℕ) → slot_of w t.books ≡ slot_of w s.books → t.plan.mode ≡ s.plan.mode → t.plan.sizes ≡ s.plan.sizes
+pub names-same : (w : ℕ) (s t : State) (ns : List ℕ) → slot_of w t.books ≡ slot_of w s.books
+    → t.plan.mode ≡ s.plan.mode → t.plan.sizes ≡ s.plan.sizes
     → items_named (slot_of w t.books) ns t.plan ≡ items_named (slot_of w s.books) ns s.plan
 names-same w s t ns a b c =
-    ap (λ (m : ModeKind). named_by m t.plan.sizes (slot_of w t.books) ns) b ∙ ap (λ (z : List ℕ). named_by s.plan.mode z (slot_of w t.books) ns) c
+    ap (λ (m : ModeKind). named_by m t.plan.sizes (slot_of w t.books) ns) b
+    ∙ ap (λ (z : List ℕ). named_by s.plan.mode z (slot_of w t.books) ns) c
     ∙ ap (λ (i : ℕ). named_by s.plan.mode s.plan.sizes i ns) a
 
 abbrev size_by : ModeKind → List ℕ → ℕ → ℕ
 size_by mode sizes slot = if is_each mode then slice_index sizes slot else sum sizes
 
-pub size-same : (w : ℕ) (s t : State) → slot_of w t.books ≡ slot_of w s.books → t.plan.mode ≡ s.plan.mode → t.plan.sizes ≡ s.plan.sizes → size_at w t ≡ size_at w s
+pub size-same : (w : ℕ) (s t : State) → slot_of w t.books ≡ slot_of w s.books → t.plan.mode ≡ s.plan.mode
+    → t.plan.sizes ≡ s.plan.sizes → size_at w t ≡ size_at w s
 size-same w s t a b c =
-    ap (λ (m : ModeKind). size_by m t.plan.sizes (slot_of w t.books)) b ∙ ap (λ (z : List ℕ). size_by s.plan.mode z (slot_of w t.books)) c ∙ ap (size_by s.plan.mode s.plan.sizes) a
+    ap (λ (m : ModeKind). size_by m t.plan.sizes (slot_of w t.books)) b
+    ∙ ap (λ (z : List ℕ). size_by s.plan.mode z (slot_of w t.books)) c ∙ ap (size_by s.plan.mode s.plan.sizes) a
 
-pub frame-by : (w : ℕ) (s t : State) → held w t.books.table ≡ held w s.books.table → slot_of w t.books ≡ slot_of w s.books → t.plan.mode ≡ s.plan.mode → t.plan.sizes ≡ s.plan.sizes
-    → ((x : ℕ) → among x s.books.table.reported ≡ true → among x t.books.table.reported ≡ true) → is_shut w t.books ≡ is_shut w s.books → asked_of w t.plan.steal ≡ asked_of w s.plan.steal
+pub frame-by : (w : ℕ) (s t : State) → held w t.books.table ≡ held w s.books.table
+    → slot_of w t.books ≡ slot_of w s.books → t.plan.mode ≡ s.plan.mode → t.plan.sizes ≡ s.plan.sizes
+    → ((x : ℕ) → among x s.books.table.reported ≡ true → among x t.books.table.reported ≡ true)
+    → is_shut w t.books ≡ is_shut w s.books → asked_of w t.plan.steal ≡ asked_of w s.plan.steal
     → in_rota w t.books.table ≡ in_rota w s.books.table → t.books.shared ≡ s.books.shared → Frame w s t
 frame-by w s t h slot mode sizes r shut asked rota shared = record {
   held = h;
@@ -81,13 +88,16 @@ frame-by w s t h slot mode sizes r shut asked rota shared = record {
 
 -- members, but for one mark of another
 
-gone-stays : (w v : ℕ) (ms : List Member) → (w == v) ≡ false → has w (λ m. m.active) (map (made_gone v) ms) ≡ has w (λ m. m.active) ms
-gone-stays w v ms h = has-cleared w v (λ m. m.active) (made_gone v) ms (λ m. refl) (λ m. refl) ∙ ap (λ (b : Bool). not b && has w (λ m. m.active) ms) h
+gone-stays : (w v : ℕ) (ms : List Member) → (w == v) ≡ false
+    → has w (λ m. m.active) (map (made_gone v) ms) ≡ has w (λ m. m.active) ms
+gone-stays w v ms h = has-cleared w v (λ m. m.active) (made_gone v) ms (λ m. refl) (λ m. refl)
+    ∙ ap (λ (b : Bool). not b && has w (λ m. m.active) ms) h
 
 turned : (w v : ℕ) → (v == w) ≡ false → (w == v) ≡ false
 turned w v h = grind (arith, nat_tests, h)
 
-held-other : (w v : ℕ) (f : Seat → Seat) (ss : List Seat) → ((x : Seat) → (f x).worker ≡ x.worker) → (v == w) ≡ false → held_in w (at_seat v f ss) ≡ held_in w ss
+held-other : (w v : ℕ) (f : Seat → Seat) (ss : List Seat) → ((x : Seat) → (f x).worker ≡ x.worker) → (v == w) ≡ false
+    → held_in w (at_seat v f ss) ≡ held_in w ss
 held-other w v f [] k h = refl
 held-other w v f (s ∷ ss) k h = grind (arith, nat_tests, held-other w v f ss k, k s, h)
 
@@ -102,7 +112,8 @@ ready-stays w v s =
       active = has-same w (λ m. m.active) (made_ready v) ms (λ m. refl) (λ m. refl);
     }
 
-pub done-stays : (w v n : ℕ) (o : Outcome) (ms : ℕ) (b : List ℕ) (s : State) → (v == w) ≡ false → Stays w s (after_effect s (Done v n o ms b))
+pub done-stays : (w v n : ℕ) (o : Outcome) (ms : ℕ) (b : List ℕ) (s : State) → (v == w) ≡ false
+    → Stays w s (after_effect s (Done v n o ms b))
 done-stays w v n o ms b s h =
     let items = items_named (slot_of v s.books) (n ∷ []) s.plan in
     let t = s.books.table in
@@ -120,15 +131,18 @@ done-stays w v n o ms b s h =
     rota [] = refl
     rota (i ∷ is) = seat-change w v (λ x. record x { held = without (i ∷ []) x.held }) s.books.table.rota (λ x. refl)
 
-    more : (is : List ℕ) (x : ℕ) → among x s.books.table.reported ≡ true → among x (completed_first v is s.books.table).reported ≡ true
+    more : (is : List ℕ) (x : ℕ) → among x s.books.table.reported ≡ true
+        → among x (completed_first v is s.books.table).reported ≡ true
     more [] x k = k
     more (i ∷ is) x k = among-longer x s.books.table.reported (i ∷ []) k
 
-pub back-stays : (w v : ℕ) (ns : List ℕ) (s : State) → (v == w) ≡ false → may_follow s (Back v ns) ≡ true → Stays w s (after_effect s (Back v ns))
+pub back-stays : (w v : ℕ) (ns : List ℕ) (s : State) → (v == w) ≡ false → may_follow s (Back v ns) ≡ true
+    → Stays w s (after_effect s (Back v ns))
 back-stays w v ns s h m =
     let items = items_named (slot_of v s.books) ns s.plan in
     let a = answers-by v ns s s.plan.steal refl (split-and (is_active v s.books) (may_give_back v ns s) m).1 in
-    let none : asked_of w s.plan.steal ≡ [] = ap (asked_of w) a.steal ∙ ap (λ (b : Bool). if b then a.asked.tests ∷ [] else []) (other a.asked a.who) in
+    let none : asked_of w s.plan.steal ≡ [] = ap (asked_of w) a.steal
+    ∙ ap (λ (b : Bool). if b then a.asked.tests ∷ [] else []) (other a.asked a.who) in
     record {
       frame = frame-by w s (after_effect s (Back v ns)) (held-other w v (λ x. record x { held = without items x.held }) s.books.table.rota (λ x. refl) h) refl refl refl (λ x k. k) refl (sym none)
           (seat-change w v (λ x. record x { held = without items x.held }) s.books.table.rota (λ x. refl)) refl;
@@ -150,7 +164,8 @@ finished-stays w v s h =
       active = gone-stays w v ms o;
     }
 
-pub refused-stays : (w v : ℕ) (text : List ℕ) (s : State) → (v == w) ≡ false → Stays w s (after_effect s (Refused v text))
+pub refused-stays : (w v : ℕ) (text : List ℕ) (s : State) → (v == w) ≡ false
+    → Stays w s (after_effect s (Refused v text))
 refused-stays w v text s h =
     let ms = s.books.members in
     record {
@@ -164,7 +179,8 @@ left-asked : (w v : ℕ) (o : Option UnansweredSteal) → (v == w) ≡ false →
 left-asked w v None h = refl
 left-asked w v (Some a) h = elim (cases_of (a.worker == v)) [
   | inl k ↦ (let other : (a.worker == w) ≡ false = grind (arith, nat_tests, h, k) in
-      ap (λ (b : Bool). asked_of w (if b then None else Some a)) k ∙ sym (ap (λ (b : Bool). if b then a.tests ∷ [] else []) other))
+      ap (λ (b : Bool). asked_of w (if b then None else Some a)) k
+      ∙ sym (ap (λ (b : Bool). if b then a.tests ∷ [] else []) other))
   | inr k ↦ ap (λ (b : Bool). asked_of w (if b then None else Some a)) k
 ]
 
@@ -183,7 +199,8 @@ down-stays w v s h =
 
 -- a collection after the share
 
-pub collected-stays : (w v : ℕ) (g : Ids) (s : State) → (v == w) ≡ false → s.books.shared ≡ true → Stays w s (after_effect s (Collected v g))
+pub collected-stays : (w v : ℕ) (g : Ids) (s : State) → (v == w) ≡ false → s.books.shared ≡ true
+    → Stays w s (after_effect s (Collected v g))
 collected-stays w v g s h shared =
     let ms = s.books.members in
     let u = in_books (λ b. marked (made_collected v) (with_list v g b)) s in
@@ -204,7 +221,8 @@ collected-stays w v g s h shared =
     joins (x ∷ ss) = grind (arith, nat_tests, joins ss)
 
     stands : (ss : List Seat) → has_seat w (ss ++ record { worker = v; held = []; shut = false } ∷ []) ≡ has_seat w ss
-    stands ss = seat-joined w ss (record { worker = v; held = []; shut = false }) ∙ ap (λ (b : Bool). has_seat w ss || b) h ∙ or-false (has_seat w ss)
+    stands ss = seat-joined w ss (record { worker = v; held = []; shut = false })
+        ∙ ap (λ (b : Bool). has_seat w ss || b) h ∙ or-false (has_seat w ss)
 
 -- the outputs
 
@@ -235,9 +253,13 @@ start-stays w v slot s h =
     none false c = refl
 
     same : (test : Member → Bool) → has w test (s.books.members ++ started v slot ∷ []) ≡ has w test s.books.members
-    same test = has-more w test s.books.members (started v slot) ∙ ap (λ (b : Bool). has w test s.books.members || (b && test (started v slot))) h ∙ none (has w test s.books.members) (test (started v slot))
+    same test = has-more w test s.books.members (started v slot)
+        ∙ ap (λ (b : Bool). has w test s.books.members || (b && test (started v slot))) h
+        ∙ none (has w test s.books.members) (test (started v slot))
 
-pub given-stays : (w v : ℕ) (items : List ℕ) (s t : State) → (v == w) ≡ false → t.books ≡ record (s.books) { table = assigned v items s.books.table } → t.plan.mode ≡ s.plan.mode → t.plan.sizes ≡ s.plan.sizes → t.plan.steal ≡ s.plan.steal
+pub given-stays : (w v : ℕ) (items : List ℕ) (s t : State) → (v == w) ≡ false
+    → t.books ≡ record (s.books) { table = assigned v items s.books.table } → t.plan.mode ≡ s.plan.mode
+    → t.plan.sizes ≡ s.plan.sizes → t.plan.steal ≡ s.plan.steal
     → Stays w s t
 given-stays w v items s t h e mode sizes steal =
     let grow = λ (x : Seat). record x { held = x.held ++ items } in
@@ -249,7 +271,8 @@ given-stays w v items s t h e mode sizes steal =
       active = ap (is_active w) e;
     }
 
-pub steal-stays : (w v : ℕ) (ns : List ℕ) (s : State) → (v == w) ≡ false → is_orderly s (Steal v ns) ≡ true → Stays w s (after_effect s (Steal v ns))
+pub steal-stays : (w v : ℕ) (ns : List ℕ) (s : State) → (v == w) ≡ false → is_orderly s (Steal v ns) ≡ true
+    → Stays w s (after_effect s (Steal v ns))
 steal-stays w v ns s h o =
     let ordered = is_in_order (items_named (slot_of v s.books) ns s.plan) (held v s.books.table) in
     let p = split-and (may_run v s && ordered && is_none s.plan.steal && not_empty ns && all_distinct ns) (all_among ns (drop 2 (held v s.books.table))) o in

@@ -80,7 +80,8 @@ quiet-given size (RunAll ∷ os) h = absurd (differ h)
 quiet-given size (Steal ns ∷ os) h = absurd (differ h)
 
 -- the first answer among these news
-first-back : (news : List What) (b : List ℕ) (rest : List (List ℕ)) → answers_in news ≡ b ∷ rest → (before after : List What) × (news ≡ before ++ what.Back b ∷ after) × (answers_in before ≡ [])
+first-back : (news : List What) (b : List ℕ) (rest : List (List ℕ)) → answers_in news ≡ b ∷ rest
+    → (before after : List What) × (news ≡ before ++ what.Back b ∷ after) × (answers_in before ≡ [])
 first-back [] b rest h = absurd cc
 first-back (what.Back c ∷ news) b rest h = (let e : c ≡ b = cc in ([], news, ap (λ (z : List ℕ). what.Back z ∷ news) e, refl))
 first-back (what.Ready ∷ news) b rest h = (let k = first-back news b rest h in (what.Ready ∷ k.0, k.1, ap (λ (l : List What). what.Ready ∷ l) k.2, k.3))
@@ -101,7 +102,8 @@ pub record LineOf (size : ℕ) (orders : List Order) (news : List What) (c : Fun
   pub first : take (length (ends_in news)) (line_given size [] orders (answers_in news)) ≡ ends_in news
   pub tests : tests_in_line (left c) ≡ drop (length (ends_in news)) (line_given size [] orders (answers_in news))
 
-line-serving : (size : ℕ) (orders : List Order) (news : List What) (c : FunctionCall) → IsServing size orders news c → LineOf size orders news c
+line-serving : (size : ℕ) (orders : List Order) (news : List What) (c : FunctionCall) → IsServing size orders news c
+    → LineOf size orders news c
 line-serving size orders news c s =
     let row = line_given size [] orders (answers_in news) in
     let k = length (ends_in news) in
@@ -109,8 +111,10 @@ line-serving size orders news c s =
     record {
       answered = s.answered;
       first = s.ended_first;
-      tests = ap (λ (l : List LineEntry). tests_in_line (drop c.ended l)) s.line_is ∙ ap (λ (i : ℕ). tests_in_line (drop i (map Test row ++ mark_of orders))) s.ended_is
-          ∙ ap tests_in_line (drop-mapped k row (mark_of orders) within) ∙ tests-mapped (drop k row) (list_any is_shutdown orders);
+      tests = ap (λ (l : List LineEntry). tests_in_line (drop c.ended l)) s.line_is
+          ∙ ap (λ (i : ℕ). tests_in_line (drop i (map Test row ++ mark_of orders))) s.ended_is
+          ∙ ap tests_in_line (drop-mapped k row (mark_of orders) within)
+          ∙ tests-mapped (drop k row) (list_any is_shutdown orders);
     }
 
 module _ (settings : Settings) (taken : List News) (w : ℕ) (l : LinkNow) (proper : IsProper settings []) (h : IsHonestAt settings taken w l)
@@ -145,7 +149,8 @@ module _ (settings : Settings) (taken : List News) (w : ℕ) (l : LinkNow) (prop
   -- its call, where the link is whole and was called
   module _ (later : List What) (tells-are : tells l.given ≡ said ++ later) where
     answers-split : answers_in (tells l.given) ≡ answers_by w r.entries ++ answers_in later
-    answers-split = ap answers_in tells-are ∙ filter_map-append answer_of_news said later ∙ ap (λ (z : List (List ℕ)). z ++ answers_in later) echo-now.answers
+    answers-split = ap answers_in tells-are ∙ filter_map-append answer_of_news said later
+        ∙ ap (λ (z : List (List ℕ)). z ++ answers_in later) echo-now.answers
 
     begins : IsFirstPart (answers_by w r.entries) (answers_in (tells l.given))
     begins = (answers_in later, answers-split)
@@ -158,7 +163,8 @@ module _ (settings : Settings) (taken : List News) (w : ℕ) (l : LinkNow) (prop
       pub calls : (before after : List Given) → l.given ≡ after ++ before → CallIs size before
       pub fit : AllFit size A (tells l.given)
 
-    called-by : (size : ℕ) → are_fair size [] A (answers_by w r.entries) ≡ true → SizedBy size (tells l.given) → Called size
+    called-by : (size : ℕ) → are_fair size [] A (answers_by w r.entries) ≡ true → SizedBy size (tells l.given)
+        → Called size
     called-by size fair sized =
         let given = answers_in (tells l.given) in
         let allow = allows size A (answers_by w r.entries) given fair one begins deal-now.last in
@@ -188,17 +194,22 @@ module _ (settings : Settings) (taken : List News) (w : ℕ) (l : LinkNow) (prop
     joined-call rota shared =
         let k = sofar.sized active (tidy.placed.fits.collected w rota) in
         let low : slot_of w r.state.books < r.state.books.settings.workers = tidy.members.below w (has-member w (λ m. m.active) r.state.books.members active) in
-        let size : size_at w r.state ≡ length k.own = size-listed w r.state k.is.listing shared low ∙ k.is.joined rota in
-        let first : collections_in said ≡ k.own ∷ k.rest = ap (λ (t : List News). collections_in (said_by w t)) (sym (run-taken settings taken)) ∙ k.ids in
+        let size : size_at w r.state ≡ length k.own = size-listed w r.state k.is.listing shared low
+        ∙ k.is.joined rota in
+        let first : collections_in said ≡ k.own ∷ k.rest = ap (λ (t : List News). collections_in (said_by w t)) (sym (run-taken settings taken))
+        ∙ k.ids in
         let all : collections_in (tells l.given) ≡ k.own ∷ (k.rest ++ collections_in later) =
-        ap collections_in tells-are ∙ filter_map-append collection_of_news said later ∙ ap (λ (z : List (List (List ℕ))). z ++ collections_in later) first in
+        ap collections_in tells-are ∙ filter_map-append collection_of_news said later
+        ∙ ap (λ (z : List (List (List ℕ))). z ++ collections_in later) first in
         called-by (size_at w r.state) deal-now.fair (λ ids rest e. (let both : k.own ∷ (k.rest ++ collections_in later) ≡ ids ∷ rest = sym all ∙ e in
         let same : k.own ≡ ids = cc in ap length (sym same) ∙ sym size))
 
     pub collected-told : in_rota w r.state.books.table ≡ true → list_any is_collected (tells l.given) ≡ true
     collected-told rota =
-        let c : list_any is_collected said ≡ true = echo-now.collected ∙ sym marks-now.collected ∙ tidy.placed.fits.collected w rota in
-        ap (list_any is_collected) tells-are ∙ list_any-append is_collected said later ∙ or-left (list_any is_collected said) (list_any is_collected later) c
+        let c : list_any is_collected said ≡ true = echo-now.collected ∙ sym marks-now.collected
+        ∙ tidy.placed.fits.collected w rota in
+        ap (list_any is_collected) tells-are ∙ list_any-append is_collected said later
+        ∙ or-left (list_any is_collected said) (list_any is_collected later) c
 
     -- once its collection was taken, what its call has of its line
     record Lined : Type 0 where
@@ -227,9 +238,11 @@ module _ (settings : Settings) (taken : List News) (w : ℕ) (l : LinkNow) (prop
     line = line_at w r.state r.entries
 
     -- the answer on the way takes its tests from the line
-    less : (size : ℕ) → size ≡ size_at w r.state → AllFit size A (tells l.given) → (C : List (List ℕ)) → answers_in later ≡ C → length C ≤ 1
+    less : (size : ℕ) → size ≡ size_at w r.state → AllFit size A (tells l.given) → (C : List (List ℕ))
+        → answers_in later ≡ C → length C ≤ 1
         → line_given (size_at w r.state) [] A (answers_by w r.entries ++ C) ≡ without (flat_map (λ ns. ns) C) line
-    less size same fit [] e few = ap (line_given (size_at w r.state) [] A) (append-nil (answers_by w r.entries)) ∙ sym (without-none line)
+    less size same fit [] e few = ap (line_given (size_at w r.state) [] A) (append-nil (answers_by w r.entries))
+        ∙ sym (without-none line)
     less size same fit (b ∷ (c ∷ C)) e few = absurd (omega (arith, few))
     less size same fit (b ∷ []) e few = go b asked.is
       where
@@ -240,7 +253,9 @@ module _ (settings : Settings) (taken : List News) (w : ℕ) (l : LinkNow) (prop
         asked = fit (said ++ found.0) (what.Back b) found.1 (tells-are ∙ ap (λ (z : List What). said ++ z) found.2 ∙ sym (append_assoc said found.0 (what.Back b ∷ found.1)))
 
         before : answers_in (said ++ found.0) ≡ answers_by w r.entries
-        before = filter_map-append answer_of_news said found.0 ∙ ap (λ (z : List (List ℕ)). answers_in said ++ z) found.3 ∙ append-nil (answers_in said) ∙ echo-now.answers
+        before = filter_map-append answer_of_news said found.0
+            ∙ ap (λ (z : List (List ℕ)). answers_in said ++ z) found.3 ∙ append-nil (answers_in said)
+            ∙ echo-now.answers
 
         shorter : (xs : List (List ℕ)) (x : List ℕ) (ys : List (List ℕ)) → xs ≡ x ∷ ys → length xs ≤ 1 → xs ≡ x ∷ []
         shorter xs x [] q k = q
@@ -250,11 +265,13 @@ module _ (settings : Settings) (taken : List News) (w : ℕ) (l : LinkNow) (prop
         unanswered = shorter (drop (length (answers_by w r.entries)) (steals_asked A)) asked.asked asked.later (ap (λ (z : List (List ℕ)). drop (length z) (steals_asked A)) (sym before) ∙ asked.next)
             (subst (λ (z : List (List ℕ)). length z ≤ 1) deal-now.open_steal (short-asked w r.state.plan.steal))
 
-        go : (c : List ℕ) → is_answer asked.asked c ≡ true → line_given (size_at w r.state) [] A (answers_by w r.entries ++ c ∷ []) ≡ without (c ++ []) line
+        go : (c : List ℕ) → is_answer asked.asked c ≡ true
+            → line_given (size_at w r.state) [] A (answers_by w r.entries ++ c ∷ []) ≡ without (c ++ []) line
         go [] i = dealt-nothing (size_at w r.state) [] A (answers_by w r.entries) ∙ sym (without-none line)
         go (n ∷ ns) i =
             let is : n ∷ ns ≡ asked.asked = (bytes_eq-Decides (n ∷ ns) asked.asked).0 i in
-            dealt-back (size_at w r.state) [] A (answers_by w r.entries) (n ∷ ns) (unanswered ∙ ap (λ (z : List ℕ). z ∷ []) (sym is)) deal-now.fair ∙ ap (λ (z : List ℕ). without z line) (sym (append-nil (n ∷ ns)))
+            dealt-back (size_at w r.state) [] A (answers_by w r.entries) (n ∷ ns) (unanswered ∙ ap (λ (z : List ℕ). z ∷ []) (sym is)) deal-now.fair
+            ∙ ap (λ (z : List ℕ). without z line) (sym (append-nil (n ∷ ns)))
 
     abbrev now : List ℕ
     now = ends_in later ++ (tests_in_line (left (call_after l.given)) ++ all_given (call_after l.given).size h.orders.0)
@@ -263,7 +280,8 @@ module _ (settings : Settings) (taken : List News) (w : ℕ) (l : LinkNow) (prop
     taken_back = flat_map (λ ns. ns) (answers_in later)
 
     -- what it holds without what it gives back is what stands at the worker and on the way
-    joined-places : in_rota w r.state.books.table ≡ true → r.state.books.shared ≡ true → without taken_back (drop (length (ends_by w r.entries)) line) ≡ now
+    joined-places : in_rota w r.state.books.table ≡ true → r.state.books.shared ≡ true
+        → without taken_back (drop (length (ends_by w r.entries)) line) ≡ now
     joined-places rota shared =
         let size = size_at w r.state in
         let k = lined rota shared in
@@ -274,34 +292,44 @@ module _ (settings : Settings) (taken : List News) (w : ℕ) (l : LinkNow) (prop
         let E = ends_in later in
         let lineT = line_given size [] R (answers_in T) in
         let answersT : answers_in T ≡ answers_by w r.entries ++ answers_in later = answers-split in
-        let endedT : ends_in T ≡ ended ++ E = ap ends_in tells-are ∙ filter_map-append end_of_news said later ∙ ap (λ (z : List ℕ). z ++ E) echo-now.ended in
-        let count : length (answers_in T) ≡ length (answers_by w r.entries) + length (answers_in later) = ap length answersT ∙ length-append (answers_by w r.entries) (answers_in later) in
-        let steal : length (steals_asked A) ≡ length (steals_asked R) + length (steals_asked G) = ap (λ (z : List Order). length (steals_asked z)) h.orders.1 ∙ ap length (steals-append R G) ∙ length-append (steals_asked R) (steals_asked G) in
+        let endedT : ends_in T ≡ ended ++ E = ap ends_in tells-are ∙ filter_map-append end_of_news said later
+        ∙ ap (λ (z : List ℕ). z ++ E) echo-now.ended in
+        let count : length (answers_in T) ≡ length (answers_by w r.entries) + length (answers_in later) = ap length answersT
+        ∙ length-append (answers_by w r.entries) (answers_in later) in
+        let steal : length (steals_asked A) ≡ length (steals_asked R) + length (steals_asked G) = ap (λ (z : List Order). length (steals_asked z)) h.orders.1
+        ∙ ap length (steals-append R G) ∙ length-append (steals_asked R) (steals_asked G) in
         let answered = k.line.answered in
         let most = one in
         let few : length (answers_in later) ≤ 1 = omega (arith, count, steal, answered, most) in
         let there : without taken_back line ≡ lineT ++ all_given size G =
         sym (less size refl (joined-call rota shared).fit (answers_in later) refl few)
-        ∙ ap (λ (z : List Order). line_given size [] z (answers_by w r.entries ++ answers_in later)) h.orders.1 ∙ ap (line_given size [] (R ++ G)) (sym answersT)
+        ∙ ap (λ (z : List Order). line_given size [] z (answers_by w r.entries ++ answers_in later)) h.orders.1
+        ∙ ap (line_given size [] (R ++ G)) (sym answersT)
         ∙ dealt-further size R G (answers_in T) (omega (arith, answered)) in
         let rest : List ℕ = E ++ (drop (length (ends_in T)) lineT ++ all_given size G) in
         let split : lineT ++ all_given size G ≡ ended ++ rest =
         ap (λ (z : List ℕ). z ++ all_given size G) (sym (take-append-drop (length (ends_in T)) lineT) ∙ ap (λ (z : List ℕ). z ++ drop (length (ends_in T)) lineT) (k.line.first ∙ endedT))
-        ∙ append_assoc (ended ++ E) (drop (length (ends_in T)) lineT) (all_given size G) ∙ append_assoc ended E (drop (length (ends_in T)) lineT ++ all_given size G) in
+        ∙ append_assoc (ended ++ E) (drop (length (ends_in T)) lineT) (all_given size G)
+        ∙ append_assoc ended E (drop (length (ends_in T)) lineT ++ all_given size G) in
         let kept : without taken_back ended ≡ ended = without-apart taken_back ended (λ x a. apart x rest a (there ∙ split)) in
         let front : without taken_back line ≡ ended ++ without taken_back (drop (length ended) line) =
         ap (without taken_back) (sym (take-append-drop (length ended) line) ∙ ap (λ (z : List ℕ). z ++ drop (length ended) line) deal-now.ended_first)
-        ∙ without-append taken_back ended (drop (length ended) line) ∙ ap (λ (z : List ℕ). z ++ without taken_back (drop (length ended) line)) kept in
-        sym (drop-append_seam ended (without taken_back (drop (length ended) line))) ∙ ap (drop (length ended)) (sym front ∙ there ∙ split) ∙ drop-append_seam ended rest
-        ∙ ap (λ (z : List ℕ). E ++ (z ++ all_given size G)) (sym k.line.tests) ∙ ap (λ (z : List ℕ). E ++ (tests_in_line (left (call_after l.given)) ++ z)) (sym k.given)
+        ∙ without-append taken_back ended (drop (length ended) line)
+        ∙ ap (λ (z : List ℕ). z ++ without taken_back (drop (length ended) line)) kept in
+        sym (drop-append_seam ended (without taken_back (drop (length ended) line)))
+        ∙ ap (drop (length ended)) (sym front ∙ there ∙ split) ∙ drop-append_seam ended rest
+        ∙ ap (λ (z : List ℕ). E ++ (z ++ all_given size G)) (sym k.line.tests)
+        ∙ ap (λ (z : List ℕ). E ++ (tests_in_line (left (call_after l.given)) ++ z)) (sym k.given)
       where
         in-front : (x : ℕ) (xs ys : List ℕ) → among x xs ≡ true → among x (xs ++ ys) ≡ true
         in-front x [] ys a = absurd (differ a)
         in-front x (z ∷ xs) ys a = grind (arith, nat_tests, in-front x xs ys, a)
 
-        apart : (x : ℕ) (rest : List ℕ) → among x (ends_by w r.entries) ≡ true → without taken_back line ≡ ends_by w r.entries ++ rest → among x taken_back ≡ false
+        apart : (x : ℕ) (rest : List ℕ) → among x (ends_by w r.entries) ≡ true
+            → without taken_back line ≡ ends_by w r.entries ++ rest → among x taken_back ≡ false
         apart x rest a e =
-            let there : among x (without taken_back line) ≡ true = ap (among x) e ∙ in-front x (ends_by w r.entries) rest a in
+            let there : among x (without taken_back line) ≡ true = ap (among x) e
+            ∙ in-front x (ends_by w r.entries) rest a in
             let p = split-and (not (among x taken_back)) (among x line) (sym (among-filter x (λ y. not (among y taken_back)) line) ∙ there) in
             not_true (among x taken_back) p.0
 
@@ -315,7 +343,8 @@ module _ (settings : Settings) (taken : List News) (w : ℕ) (l : LinkNow) (prop
         let parts = still k.0 k.1.call quietR in
         let E : ends_in later ≡ [] = none-second (ends_in said) (ends_in later) (sym (filter_map-append end_of_news said later) ∙ ap ends_in (sym tells-are) ∙ parts.0) in
         ap (λ (z : List ℕ). z ++ (tests_in_line (left (call_after l.given)) ++ all_given (call_after l.given).size h.orders.0)) E
-        ∙ ap (λ (z : List ℕ). z ++ all_given (call_after l.given).size h.orders.0) parts.1 ∙ quiet-given (call_after l.given).size h.orders.0 quietG
+        ∙ ap (λ (z : List ℕ). z ++ all_given (call_after l.given).size h.orders.0) parts.1
+        ∙ quiet-given (call_after l.given).size h.orders.0 quietG
       where
         none-taken : (n : ℕ) → take {A = ℕ} n [] ≡ []
         none-taken zero = refl
@@ -325,18 +354,22 @@ module _ (settings : Settings) (taken : List News) (w : ℕ) (l : LinkNow) (prop
         none-dropped zero = refl
         none-dropped (suc n) = refl
 
-        still : (size : ℕ) → CallIs size l.given → is_quiet (orders_of l.given) ≡ true → (ends_in (tells l.given) ≡ []) × (tests_in_line (left (call_after l.given)) ≡ [])
+        still : (size : ℕ) → CallIs size l.given → is_quiet (orders_of l.given) ≡ true
+            → (ends_in (tells l.given) ≡ []) × (tests_in_line (left (call_after l.given)) ≡ [])
         still size (inl k) b = (ap ends_in (awaits-nothing k), ap (λ (c : FunctionCall). tests_in_line (left c)) k.call_is)
         still size (inr (inl k)) b =
             let f = line-serving size (orders_of l.given) (tells l.given) (call_after l.given) k.is in
             let row = quiet-line size (orders_of l.given) (answers_in (tells l.given)) b in (
-              sym f.first ∙ ap (take (length (ends_in (tells l.given)))) row ∙ none-taken (length (ends_in (tells l.given))),
-              f.tests ∙ ap (drop (length (ends_in (tells l.given)))) row ∙ none-dropped (length (ends_in (tells l.given))),
+              sym f.first ∙ ap (take (length (ends_in (tells l.given)))) row
+                  ∙ none-taken (length (ends_in (tells l.given))),
+              f.tests ∙ ap (drop (length (ends_in (tells l.given)))) row
+                  ∙ none-dropped (length (ends_in (tells l.given))),
             )
         still size (inr (inr k)) b = (
           elim (cases_of (list_any is_collected (tells l.given))) [
             | inl c ↦ (let e = k.all_ended c in let row = quiet-line size (orders_of l.given) (answers_in (tells l.given)) b in
-                sym e.first ∙ ap (take (length (ends_in (tells l.given)))) row ∙ none-taken (length (ends_in (tells l.given))))
+                sym e.first ∙ ap (take (length (ends_in (tells l.given)))) row
+                ∙ none-taken (length (ends_in (tells l.given))))
             | inr c ↦ k.none_ended c
           ],
           k.left_none,
@@ -347,13 +380,17 @@ module _ (settings : Settings) (taken : List News) (w : ℕ) (l : LinkNow) (prop
   abbrev slot : ℕ
   slot = slot_of w r.state.books
 
-  holds-line : (bs : List ℕ) → without (items_named slot bs r.state.plan) (held w r.state.books.table) ≡ items_named slot (without bs (drop (length (ends_by w r.entries)) (line_at w r.state r.entries))) r.state.plan
-  holds-line bs = ap (without (items_named slot bs r.state.plan)) deal-now.held_is ∙ named-without slot bs (drop (length (ends_by w r.entries)) (line_at w r.state r.entries)) r.state.plan
+  holds-line : (bs : List ℕ)
+      → without (items_named slot bs r.state.plan) (held w r.state.books.table) ≡ items_named slot (without bs (drop (length (ends_by w r.entries)) (line_at w r.state r.entries))) r.state.plan
+  holds-line bs = ap (without (items_named slot bs r.state.plan)) deal-now.held_is
+      ∙ named-without slot bs (drop (length (ends_by w r.entries)) (line_at w r.state r.entries)) r.state.plan
 
-  quiet-holds : is_quiet A ≡ true → (bs : List ℕ) → without (items_named slot bs r.state.plan) (held w r.state.books.table) ≡ []
+  quiet-holds : is_quiet A ≡ true → (bs : List ℕ)
+      → without (items_named slot bs r.state.plan) (held w r.state.books.table) ≡ []
   quiet-holds q bs =
       let row : line_at w r.state r.entries ≡ [] = quiet-line (size_at w r.state) A (answers_by w r.entries) q in
-      holds-line bs ∙ ap (λ (z : List ℕ). items_named slot (without bs (drop (length (ends_by w r.entries)) z)) r.state.plan) row ∙ go (length (ends_by w r.entries))
+      holds-line bs ∙ ap (λ (z : List ℕ). items_named slot (without bs (drop (length (ends_by w r.entries)) z)) r.state.plan) row
+      ∙ go (length (ends_by w r.entries))
     where
       go : (n : ℕ) → items_named slot (without bs (drop n [])) r.state.plan ≡ []
       go zero = named-none slot r.state.plan
@@ -366,7 +403,8 @@ module _ (settings : Settings) (taken : List News) (w : ℕ) (l : LinkNow) (prop
   back_items news = items_named slot (flat_map (λ ns. ns) (answers_in news)) r.state.plan
 
   -- of a link that was called
-  pub called-places : (later : List What) → tells l.given ≡ said ++ later → without (back_items later) (held w r.state.books.table) ≡ place_items later h.orders.0
+  pub called-places : (later : List What) → tells l.given ≡ said ++ later
+      → without (back_items later) (held w r.state.books.table) ≡ place_items later h.orders.0
   called-places later e = elim (cases_of (in_rota w r.state.books.table)) [
     | inr a ↦ quiet (deal-now.early a)
     | inl a ↦ (elim (cases_of r.state.books.shared) [
@@ -375,11 +413,14 @@ module _ (settings : Settings) (taken : List News) (w : ℕ) (l : LinkNow) (prop
     ])
   ]
     where
-      quiet : is_quiet A ≡ true → without (back_items later) (held w r.state.books.table) ≡ place_items later h.orders.0
-      quiet q = quiet-holds q (flat_map (λ ns. ns) (answers_in later)) ∙ sym (ap (λ (z : List ℕ). items_named slot z r.state.plan) (quiet-places later e q) ∙ named-none slot r.state.plan)
+      quiet : is_quiet A ≡ true
+          → without (back_items later) (held w r.state.books.table) ≡ place_items later h.orders.0
+      quiet q = quiet-holds q (flat_map (λ ns. ns) (answers_in later))
+          ∙ sym (ap (λ (z : List ℕ). items_named slot z r.state.plan) (quiet-places later e q) ∙ named-none slot r.state.plan)
 
   -- or was not yet
-  uncalled-places : l.called ≡ false → (later : List What) → [] ≡ said ++ later → without (back_items later) (held w r.state.books.table) ≡ place_items later h.orders.0
+  uncalled-places : l.called ≡ false → (later : List What) → [] ≡ said ++ later
+      → without (back_items later) (held w r.state.books.table) ≡ place_items later h.orders.0
   uncalled-places u later e =
       let none : said ≡ [] = first-none said later (sym e) in
       let rest : later ≡ [] = none-second said later (sym e) in
@@ -390,7 +431,8 @@ module _ (settings : Settings) (taken : List News) (w : ℕ) (l : LinkNow) (prop
       quiet-holds q (flat_map (λ ns. ns) (answers_in later)) ∙ sym (
       ap (λ (z : List What). place_items z h.orders.0) rest
       ∙ ap (λ (gs : List Given). items_named slot (tests_in_line (left (call_after gs)) ++ all_given (call_after gs).size h.orders.0) r.state.plan) given
-      ∙ ap (λ (z : List ℕ). items_named slot z r.state.plan) (quiet-given 0 h.orders.0 quietG) ∙ named-none slot r.state.plan)
+      ∙ ap (λ (z : List ℕ). items_named slot z r.state.plan) (quiet-given 0 h.orders.0 quietG)
+      ∙ named-none slot r.state.plan)
     where
       first-none : (xs ys : List What) → xs ++ ys ≡ [] → xs ≡ []
       first-none [] ys k = refl
@@ -412,13 +454,15 @@ module _ (settings : Settings) (taken : List News) (w : ℕ) (l : LinkNow) (prop
   pub orders-left : orders_on_way settings taken w l ≡ h.orders.0
   orders-left = ap (drop (length (orders_of l.given))) h.orders.1 ∙ drop-append_seam (orders_of l.given) h.orders.0
 
-  all-places : l.whole ≡ true → without (items_given_back settings taken w l) (held w r.state.books.table) ≡ items_of_link settings taken w l
+  all-places : l.whole ≡ true
+      → without (items_given_back settings taken w l) (held w r.state.books.table) ≡ items_of_link settings taken w l
   all-places whole =
       let b = told-split whole in
       ap (λ (z : List What). without (back_items z) (held w r.state.books.table)) (news-left b) ∙ go l.called refl b
       ∙ sym (ap (λ (z : List What). place_items z (orders_on_way settings taken w l)) (news-left b) ∙ ap (place_items b.0) orders-left)
     where
-      go : (c : Bool) → l.called ≡ c → (b : IsFirstPart said (told_so_far l)) → without (back_items b.0) (held w r.state.books.table) ≡ place_items b.0 h.orders.0
+      go : (c : Bool) → l.called ≡ c → (b : IsFirstPart said (told_so_far l))
+          → without (back_items b.0) (held w r.state.books.table) ≡ place_items b.0 h.orders.0
       go true e b = called-places b.0 (sym (ap (λ (c : Bool). if c then tells l.given else []) e) ∙ b.1)
       go false e b = uncalled-places e b.0 (sym (ap (λ (c : Bool). if c then tells l.given else []) e) ∙ b.1)
 

@@ -33,7 +33,8 @@ use Rattle.std.proofs.Math.Seq.{take-length, drop-length}
 use Rattle.xd_system.proofs.Named.{item_at, named-none, same-items, named-without, among-named}
 
 -- the line of fair orders has no test twice
-pub distinct-fair : (size : ℕ) (line : List ℕ) (R : List Order) (backs : List (List ℕ)) → all_distinct line ≡ true → are_fair size line R backs ≡ true → all_distinct (line_given size line R backs) ≡ true
+pub distinct-fair : (size : ℕ) (line : List ℕ) (R : List Order) (backs : List (List ℕ)) → all_distinct line ≡ true
+    → are_fair size line R backs ≡ true → all_distinct (line_given size line R backs) ≡ true
 distinct-fair size line [] backs h f = h
 distinct-fair size line (RunTests ns ∷ R) backs h f = (let p = split-and (are_new size line ns) (are_fair size (line ++ ns) R backs) f in distinct-fair size (line ++ ns) R backs (distinct-more line ns size h p.0) p.1)
 distinct-fair size line (RunAll ∷ R) backs h f =
@@ -45,7 +46,8 @@ distinct-fair size line (Steal ns ∷ R) backs h f =
     let p = split-and (is_in_order ns line && is_answer ns (first_answer backs)) (are_fair size (without (first_answer backs) line) R (drop 1 backs)) f in
     distinct-fair size (without (first_answer backs) line) R (drop 1 backs) (distinct-filter (λ x. not (among x (first_answer backs))) line h) p.1
 
-held-fewer : (w : ℕ) (items : List ℕ) (ss : List Seat) → held_in w (at_seat w (λ s. record s { held = without items s.held }) ss) ≡ without items (held_in w ss)
+held-fewer : (w : ℕ) (items : List ℕ) (ss : List Seat)
+    → held_in w (at_seat w (λ s. record s { held = without items s.held }) ss) ≡ without items (held_in w ss)
 held-fewer w items [] = refl
 held-fewer w items (s ∷ ss) = grind (arith, nat_tests, held-fewer w items ss)
 
@@ -102,8 +104,10 @@ module _ (w : ℕ) (ns : List ℕ) (es : List Entry) where
     line-less : line_given (size_at w s) [] (told_to w es) (answers_by w es ++ ns ∷ []) ≡ without ns (line_at w s es)
     line-less = go ns answers.is
       where
-        go : (ms : List ℕ) → is_answer answers.asked.tests ms ≡ true → line_given (size_at w s) [] (told_to w es) (answers_by w es ++ ms ∷ []) ≡ without ms (line_at w s es)
-        go [] i = dealt-nothing (size_at w s) [] (told_to w es) (answers_by w es) ∙ sym (without-none (line_at w s es))
+        go : (ms : List ℕ) → is_answer answers.asked.tests ms ≡ true
+            → line_given (size_at w s) [] (told_to w es) (answers_by w es ++ ms ∷ []) ≡ without ms (line_at w s es)
+        go [] i = dealt-nothing (size_at w s) [] (told_to w es) (answers_by w es)
+            ∙ sym (without-none (line_at w s es))
         go (m ∷ ms) i =
             let same : m ∷ ms ≡ answers.asked.tests = (bytes_eq-Decides (m ∷ ms) answers.asked.tests).0 i in
             dealt-back (size_at w s) [] (told_to w es) (answers_by w es) (m ∷ ms) (unanswered ∙ ap (λ (l : List ℕ). l ∷ []) (sym same)) d.fair
@@ -114,7 +118,8 @@ module _ (w : ℕ) (ns : List ℕ) (es : List Entry) where
       | inl b ↦ (let k = length (ends_by w es) in
           let line = line_at w s es in
           let item : among (item_at slot x s.plan) (drop 1 (held w s.books.table)) ≡ true = among-named slot x ns (drop 1 (held w s.books.table)) s.plan b answers.within in
-          let holds : among (item_at slot x s.plan) (items_named slot (drop k line) s.plan) ≡ true = ap (among (item_at slot x s.plan)) (sym d.held_is) ∙ among-drop (item_at slot x s.plan) 1 (held w s.books.table) item in
+          let holds : among (item_at slot x s.plan) (items_named slot (drop k line) s.plan) ≡ true = ap (among (item_at slot x s.plan)) (sym d.held_is)
+          ∙ among-drop (item_at slot x s.plan) 1 (held w s.books.table) item in
           let later : among x (drop k line) ≡ true = sym (same-items slot x (drop k line) s.plan) ∙ holds in
           let first : among x (take k line) ≡ true = ap (among x) d.ended_first ∙ a in
           absurd (apart-of x k line (distinct-fair (size_at w s) [] (told_to w es) (answers_by w es) refl d.fair) first later))
@@ -127,31 +132,40 @@ module _ (w : ℕ) (ns : List ℕ) (es : List Entry) where
         let k = length (ends_by w es) in
         let line = line_at w s es in
         ap (without ns) (sym (take-append-drop k line) ∙ ap (λ (l : List ℕ). l ++ drop k line) d.ended_first)
-        ∙ without-append ns (ends_by w es) (drop k line) ∙ ap (λ (l : List ℕ). l ++ without ns (drop k line)) (without-apart ns (ends_by w es) apart)
+        ∙ without-append ns (ends_by w es) (drop k line)
+        ∙ ap (λ (l : List ℕ). l ++ without ns (drop k line)) (without-apart ns (ends_by w es) apart)
 
     pub takes_back : Deal w (after_effect s e) (es ++ e ∷ [])
     takes_back =
         let k = length (ends_by w es) in
         let line = line_at w s es in
         let line_then : line_at w (after_effect s e) (es ++ e ∷ []) ≡ ends_by w es ++ without ns (drop k line) =
-        ap (λ (os : List Order). line_given (size_at w s) [] os (answers_by w (es ++ e ∷ []))) told-same ∙ ap (line_given (size_at w s) [] (told_to w es)) answers-more ∙ line-less ∙ parts in
+        ap (λ (os : List Order). line_given (size_at w s) [] os (answers_by w (es ++ e ∷ []))) told-same
+        ∙ ap (line_given (size_at w s) [] (told_to w es)) answers-more ∙ line-less ∙ parts in
         let few : k ≤ length (ends_by w es) = omega arith in
         record {
-          held_is = held-fewer w (items_named slot ns s.plan) s.books.table.rota ∙ ap (without (items_named slot ns s.plan)) d.held_is ∙ named-without slot ns (drop k line) s.plan
+          held_is = held-fewer w (items_named slot ns s.plan) s.books.table.rota
+              ∙ ap (without (items_named slot ns s.plan)) d.held_is ∙ named-without slot ns (drop k line) s.plan
               ∙ ap (λ (l : List ℕ). items_named slot l s.plan) (ap (λ (l : List ℕ). l ++ without ns (drop k line)) (sym (drop-length (ends_by w es))) ∙ sym (drop-append-le k (ends_by w es) (without ns (drop k line)) few))
-              ∙ ap (λ (l : List ℕ). items_named slot (drop k l) s.plan) (sym line_then) ∙ ap (λ (l : List ℕ). items_named slot (drop (length l) (line_at w (after_effect s e) (es ++ e ∷ []))) s.plan) (sym ended-same);
-          ended_first = ap (λ (l : List ℕ). take (length l) (line_at w (after_effect s e) (es ++ e ∷ []))) ended-same ∙ ap (take k) line_then ∙ take-append-le k (ends_by w es) (without ns (drop k line)) few
+              ∙ ap (λ (l : List ℕ). items_named slot (drop k l) s.plan) (sym line_then)
+              ∙ ap (λ (l : List ℕ). items_named slot (drop (length l) (line_at w (after_effect s e) (es ++ e ∷ []))) s.plan) (sym ended-same);
+          ended_first = ap (λ (l : List ℕ). take (length l) (line_at w (after_effect s e) (es ++ e ∷ []))) ended-same
+              ∙ ap (take k) line_then ∙ take-append-le k (ends_by w es) (without ns (drop k line)) few
               ∙ take-length (ends_by w es) ∙ sym ended-same;
-          reported = ap (λ (l : List ℕ). all_among (items_named slot l s.plan) s.books.table.reported) ended-same ∙ d.reported;
-          fair = ap (λ (os : List Order). are_fair (size_at w s) [] os (answers_by w (es ++ e ∷ []))) told-same ∙ ap (are_fair (size_at w s) [] (told_to w es)) answers-more
+          reported = ap (λ (l : List ℕ). all_among (items_named slot l s.plan) s.books.table.reported) ended-same
+              ∙ d.reported;
+          fair = ap (λ (os : List Order). are_fair (size_at w s) [] os (answers_by w (es ++ e ∷ []))) told-same
+              ∙ ap (are_fair (size_at w s) [] (told_to w es)) answers-more
               ∙ fair-back (size_at w s) [] (told_to w es) (answers_by w es) answers.asked.tests ns unanswered answers.is d.fair;
           last = rw told-same d.last;
           marks = rw told-same d.marks;
           open_steal = sym (ap (λ (os : List Order). drop (length (answers_by w (es ++ e ∷ []))) (steals_asked os)) told-same ∙ ap (λ (l : List (List ℕ)). drop (length l) (steals_asked (told_to w es))) answers-more
-              ∙ ap (λ (n : ℕ). drop n (steals_asked (told_to w es))) (length-append (answers_by w es) (ns ∷ [])) ∙ drop-next (length (answers_by w es)) answers.asked.tests (steals_asked (told_to w es)) [] unanswered);
+              ∙ ap (λ (n : ℕ). drop n (steals_asked (told_to w es))) (length-append (answers_by w es) (ns ∷ []))
+              ∙ drop-next (length (answers_by w es)) answers.asked.tests (steals_asked (told_to w es)) [] unanswered);
           answered =
               (let n = within-dropped (length (answers_by w es)) answers.asked.tests (steals_asked (told_to w es)) [] unanswered in
-              let c : length (answers_by w (es ++ e ∷ [])) ≡ length (answers_by w es) + 1 = ap length answers-more ∙ length-append (answers_by w es) (ns ∷ []) in
+              let c : length (answers_by w (es ++ e ∷ [])) ≡ length (answers_by w es) + 1 = ap length answers-more
+              ∙ length-append (answers_by w es) (ns ∷ []) in
               let t : length (steals_asked (told_to w (es ++ e ∷ []))) ≡ length (steals_asked (told_to w es)) = ap (λ (os : List Order). length (steals_asked os)) told-same in
               omega (arith, n, c, t));
           early = rw told-same (λ r. d.early (sym (seat-change w w (λ x. record x { held = without (items_named slot ns s.plan) x.held }) s.books.table.rota (λ x. refl)) ∙ r));

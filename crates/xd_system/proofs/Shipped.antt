@@ -41,7 +41,8 @@ none-before [] b = refl
 none-before (x ∷ xs) b = absurd (let e : [] ≡ x ∷ (xs ++ b.0) = b.1 in cc)
 
 -- a list that begins with these, and of which this comes next
-begins-next : {A : Type 0} (first all : List A) (x : A) (later : List A) → IsFirstPart first all → drop (length first) all ≡ x ∷ later → IsFirstPart (first ++ x ∷ []) all
+begins-next : {A : Type 0} (first all : List A) (x : A) (later : List A) → IsFirstPart first all
+    → drop (length first) all ≡ x ∷ later → IsFirstPart (first ++ x ∷ []) all
 begins-next first all x later b next =
     let rest : b.0 ≡ x ∷ later = sym (drop-append_seam first b.0) ∙ sym (ap (drop (length first)) b.1) ∙ next in
     (later, b.1 ∙ ap (λ (l : List _). first ++ l) rest ∙ sym (append_assoc first (x ∷ []) later))
@@ -62,7 +63,8 @@ took-first true took told t = t
 took-first false took told t = inl t
 
 -- where no end of the link was taken
-took-none-last : (b : Bool) (took told : List What) → list_any is_link_over took ≡ false → TookOf b took told → IsFirstPart took told
+took-none-last : (b : Bool) (took told : List What) → list_any is_link_over took ≡ false → TookOf b took told
+    → IsFirstPart took told
 took-none-last true took told none t = t
 took-none-last false took told none (inl t) = t
 took-none-last false took told none (inr (inl c)) =
@@ -90,7 +92,8 @@ module _ (settings : Settings) (s : System) (w v : ℕ) (l : LinkNow) (k : Shipp
     called = λ c. k.called (ap (λ (m : LinkNow). m.called) same ∙ c);
   })
 
-  own : (v == w) ≡ true → IsHonestAt settings s.taken w l → (l.called ≡ true → WasBegun settings s.taken w) → Shipped settings next w
+  own : (v == w) ≡ true → IsHonestAt settings s.taken w l → (l.called ≡ true → WasBegun settings s.taken w)
+      → Shipped settings next w
   own h is c = (let same : l ≡ next.links w = sym (ap (λ (b : Bool). if b then l else s.links w) h) in record {
     honest = subst (IsHonestAt settings s.taken w) same is;
     called = λ d. c (ap (λ (m : LinkNow). m.called) same ∙ d);
@@ -137,7 +140,8 @@ module _ (settings : Settings) (s : System) (w : ℕ) (k : Shipped settings s w)
   comes-so i (Printed bytes) = refl
   comes-so i (Ended outcome ms) = refl
 
-  orders-so : (i : Input) → MayCome settings s w i → IsFirstPart (orders_of link.given ++ order_in i) (told_to w (run_of settings s.taken).entries)
+  orders-so : (i : Input) → MayCome settings s w i
+      → IsFirstPart (orders_of link.given ++ order_in i) (told_to w (run_of settings s.taken).entries)
   orders-so i (Ordered o later e) = begins-next (orders_of link.given) (told_to w (run_of settings s.taken).entries) o later k.honest.orders e
   orders-so i (SuiteRead bytes tests mode suite) = no-order
   orders-so i (NoSuite text) = no-order
@@ -173,10 +177,12 @@ module _ (settings : Settings) (proper : IsProper settings []) (s : System) (v :
   abbrev more : List News
   more = s.taken ++ n ∷ []
 
-  orders-grow : (w : ℕ) → IsFirstPart (told_to w (run_of settings s.taken).entries) (told_to w (run_of settings (s.taken ++ n ∷ [])).entries)
+  orders-grow : (w : ℕ)
+      → IsFirstPart (told_to w (run_of settings s.taken).entries) (told_to w (run_of settings (s.taken ++ n ∷ [])).entries)
   orders-grow w = (
     told_to w (added r (input_of r n)),
-    ap (λ (q : SoFar). told_to w q.entries) (run-more settings s.taken n) ∙ ap (told_to w) (entries-added r (input_of r n))
+    ap (λ (q : SoFar). told_to w q.entries) (run-more settings s.taken n)
+        ∙ ap (told_to w) (entries-added r (input_of r n))
         ∙ filter_map-append (order_told w) r.entries (added r (input_of r n)),
   )
 
@@ -188,15 +194,18 @@ module _ (settings : Settings) (proper : IsProper settings []) (s : System) (v :
   said-own-more w h = said-join w s.taken (n ∷ []) ∙ ap (λ (l : List What). said_by w s.taken ++ l) (said-own w n h)
 
   said-other-more : (w : ℕ) → (v == w) ≡ false → said_by w (s.taken ++ n ∷ []) ≡ said_by w s.taken
-  said-other-more w h = said-join w s.taken (n ∷ []) ∙ ap (λ (l : List What). said_by w s.taken ++ l) (said-other w n h) ∙ append-nil (said_by w s.taken)
+  said-other-more w h = said-join w s.taken (n ∷ [])
+      ∙ ap (λ (l : List What). said_by w s.taken ++ l) (said-other w n h) ∙ append-nil (said_by w s.taken)
 
-  begun-more : (w : ℕ) → ((v == w) ≡ true → WasBegun settings s.taken w) → AfterStart settings s.taken w → AfterStart settings (s.taken ++ n ∷ []) w
+  begun-more : (w : ℕ) → ((v == w) ≡ true → WasBegun settings s.taken w) → AfterStart settings s.taken w
+      → AfterStart settings (s.taken ++ n ∷ []) w
   begun-more w now before pre m post e own = elim (last-split s.taken n pre post m e) [
     | inl a ↦ subst (λ (l : List News). has_member w (λ m. true) (run_of settings l).state.books ≡ true) (sym a.0) (now (sym (ap (λ (y : News). y.worker == w) a.1) ∙ own))
     | inr a ↦ before pre m a.0 a.1 own
   ]
 
-  news-step : (w : ℕ) → WasBegun settings s.taken v → ((v == w) ≡ true → TookOf (s.links w).whole (said_by w s.taken ++ x ∷ []) (told_so_far (s.links w)))
+  news-step : (w : ℕ) → WasBegun settings s.taken v
+      → ((v == w) ≡ true → TookOf (s.links w).whole (said_by w s.taken ++ x ∷ []) (told_so_far (s.links w)))
       → Shipped settings s w → Shipped settings (system_with_news s v x) w
   news-step w begun took k = record {
     honest = record {
@@ -221,7 +230,8 @@ module _ (settings : Settings) (proper : IsProper settings []) (s : System) (all
   first-so v none = took-none-last (s.links v).whole (said_by v s.taken) (told_so_far (s.links v)) none (all v).honest.news
 
   -- whoever told something was called
-  told-called : (v : ℕ) (x : What) (later : List What) → news_on_way s.taken v (s.links v) ≡ x ∷ later → (s.links v).called ≡ true
+  told-called : (v : ℕ) (x : What) (later : List What) → news_on_way s.taken v (s.links v) ≡ x ∷ later
+      → (s.links v).called ≡ true
   told-called v x later e = elim (cases_of (s.links v).called) [
     | inl c ↦ c
     | inr c ↦ absurd (let z : [] ≡ x ∷ later = sym (drop-nil (length (said_by v s.taken))) ∙ sym (ap (drop (length (said_by v s.taken))) (silent settings s v (all v) c)) ∙ e in cc)
@@ -230,14 +240,17 @@ module _ (settings : Settings) (proper : IsProper settings []) (s : System) (all
   abbrev TookNext : ℕ → What → Type 0
   TookNext v x = TookOf (s.links v).whole (said_by v s.taken ++ x ∷ []) (told_so_far (s.links v))
 
-  takes : (v : ℕ) (x : What) (later : List What) → heard_end s v ≡ false → news_on_way s.taken v (s.links v) ≡ x ∷ later → TookNext v x
+  takes : (v : ℕ) (x : What) (later : List What) → heard_end s v ≡ false
+      → news_on_way s.taken v (s.links v) ≡ x ∷ later → TookNext v x
   takes v x later none e = took-first (s.links v).whole (said_by v s.taken ++ x ∷ []) (told_so_far (s.links v)) (begins-next (said_by v s.taken) (told_so_far (s.links v)) x later (first-so v none) e)
 
-  goes : (v : ℕ) (cause : Cause) → (s.links v).whole ≡ false → heard_end s v ≡ false → is_breach (Gone cause) ≡ false → TookNext v (Gone cause)
+  goes : (v : ℕ) (cause : Cause) → (s.links v).whole ≡ false → heard_end s v ≡ false → is_breach (Gone cause) ≡ false
+      → TookNext v (Gone cause)
   goes v cause cut none honest = subst (λ (b : Bool). TookOf b (said_by v s.taken ++ Gone cause ∷ []) (told_so_far (s.links v))) (sym cut)
       (inr (inl (record { heard = said_by v s.taken; cause = cause; begins = first-so v none; are = refl; honest = honest })))
 
-  fails : (v : ℕ) → (s.links v).whole ≡ false → (s.links v).called ≡ false → heard_end s v ≡ false → TookNext v NotStarted
+  fails : (v : ℕ) → (s.links v).whole ≡ false → (s.links v).called ≡ false → heard_end s v ≡ false
+      → TookNext v NotStarted
   fails v cut uncalled none =
       let said : said_by v s.taken ≡ [] = none-before (said_by v s.taken) (subst (IsFirstPart (said_by v s.taken)) (silent settings s v (all v) uncalled) (first-so v none)) in
       subst (λ (b : Bool). TookOf b (said_by v s.taken ++ NotStarted ∷ []) (told_so_far (s.links v))) (sym cut) (inr (inr (ap (λ (l : List What). l ++ NotStarted ∷ []) said)))
@@ -284,7 +297,8 @@ shipped-fresh settings w = record {
     none [] n after e = cc
     none (b ∷ before) n after e = cc
 
-shipped : (settings : Settings) (s : System) → IsProper settings [] → Reaches settings s → (w : ℕ) → Shipped settings s w
+shipped : (settings : Settings) (s : System) → IsProper settings [] → Reaches settings s → (w : ℕ)
+    → Shipped settings s w
 shipped settings s proper Fresh w = shipped-fresh settings w
 shipped settings s proper (Then p t before step) w = shipped-then settings proper p (shipped settings p proper before) t step w
 

@@ -38,14 +38,17 @@ use Rattle.xd_system.proofs.Others.{names-same, size-same}
 
 -- a worker starts
 
-pub takes_start : (w slot : ℕ) (es : List Entry) (s : State) → Placed s → has_member w (λ m. true) s.books ≡ false → HasNothing w es → asked_of w s.plan.steal ≡ [] → Deal w (after_effect s (Start w slot)) (es ++ Start w slot ∷ [])
+pub takes_start : (w slot : ℕ) (es : List Entry) (s : State) → Placed s → has_member w (λ m. true) s.books ≡ false
+    → HasNothing w es → asked_of w s.plan.steal ≡ []
+    → Deal w (after_effect s (Start w slot)) (es ++ Start w slot ∷ [])
 takes_start w slot es s placed none n unasked =
     let e = Start w slot in
     let a : Apart w es (es ++ e ∷ []) = apart-one w es e refl refl refl in
     let told : told_to w (es ++ e ∷ []) ≡ [] = a.told ∙ n.told in
     deal-bare w (after_effect s e) (es ++ e ∷ []) (ap is_quiet told) (ap marks_last told) (a.answers ∙ n.answers) (a.ended ∙ n.ended) (record {
       held = held-none w s.books.table.rota absent;
-      marks = has-more w (λ m. m.shut) s.books.members (started w slot) ∙ ap (λ (b : Bool). b || ((w == w) && false)) unshut ∙ off (w == w) ∙ sym (ap (list_any is_shutdown) told);
+      marks = has-more w (λ m. m.shut) s.books.members (started w slot)
+          ∙ ap (λ (b : Bool). b || ((w == w) && false)) unshut ∙ off (w == w) ∙ sym (ap (list_any is_shutdown) told);
       asked = unasked;
     })
   where
@@ -67,11 +70,13 @@ takes_start w slot es s placed none n unasked =
 
 -- a collection comes while nothing but a Shutdown was told
 
-empty-joined : (w v : ℕ) (ss : List Seat) → held_in w ss ≡ [] → held_in w (ss ++ record { worker = v; held = []; shut = false } ∷ []) ≡ []
+empty-joined : (w v : ℕ) (ss : List Seat) → held_in w ss ≡ []
+    → held_in w (ss ++ record { worker = v; held = []; shut = false } ∷ []) ≡ []
 empty-joined w v [] h = grind (arith, nat_tests)
 empty-joined w v (s ∷ ss) h = grind (arith, nat_tests, empty-joined w v ss, h)
 
-pub takes_collected : (w v : ℕ) (g : Ids) (es : List Entry) (s : State) → Deal w s es → is_quiet (told_to w es) ≡ true → Deal w (after_effect s (Collected v g)) (es ++ Collected v g ∷ [])
+pub takes_collected : (w v : ℕ) (g : Ids) (es : List Entry) (s : State) → Deal w s es → is_quiet (told_to w es) ≡ true
+    → Deal w (after_effect s (Collected v g)) (es ++ Collected v g ∷ [])
 takes_collected w v g es s d q =
     let e = Collected v g in
     let a : Apart w es (es ++ e ∷ []) = apart-one w es e refl refl refl in
@@ -116,7 +121,8 @@ module _ (w : ℕ) (es : List Entry) (s : State) (h : is_orderly s (Shutdown w) 
   line-then =
       let size = size_at w s in
       ap (λ (z : ℕ). line_given z [] (told_to w (es ++ e ∷ [])) (answers_by w (es ++ e ∷ []))) size-is
-      ∙ ap (λ (os : List Order). line_given size [] os (answers_by w (es ++ e ∷ []))) told-more ∙ ap (line_given size [] (told_to w es ++ order.Shutdown ∷ [])) answers-same
+      ∙ ap (λ (os : List Order). line_given size [] os (answers_by w (es ++ e ∷ []))) told-more
+      ∙ ap (line_given size [] (told_to w es ++ order.Shutdown ∷ [])) answers-same
       ∙ dealt-append size [] (told_to w es) (order.Shutdown ∷ []) (answers_by w es)
 
   quiet-more : is_quiet (told_to w es) ≡ true → is_quiet (told_to w (es ++ e ∷ [])) ≡ true
@@ -130,21 +136,30 @@ module _ (w : ℕ) (es : List Entry) (s : State) (h : is_orderly s (Shutdown w) 
       let k = length (ends_by w es) in
       let own : (w == w) ≡ true = grind (arith, nat_tests) in
       let unshut : list_any is_shutdown (told_to w es) ≡ false = sym d.marks ∙ not_true (is_shut w s.books) p.1 in
-      let steals-same : steals_asked (told_to w (es ++ e ∷ [])) ≡ steals_asked (told_to w es) = ap steals_asked told-more ∙ steals-append (told_to w es) (order.Shutdown ∷ []) ∙ append-nil (steals_asked (told_to w es)) in
+      let steals-same : steals_asked (told_to w (es ++ e ∷ [])) ≡ steals_asked (told_to w es) = ap steals_asked told-more
+      ∙ steals-append (told_to w es) (order.Shutdown ∷ []) ∙ append-nil (steals_asked (told_to w es)) in
       record {
-        held_is = held-shut w w s.books.table.rota ∙ d.held_is ∙ sym (names-same w s t (drop k (line_at w s es)) slot-is refl refl)
-            ∙ ap (λ (l : List ℕ). items_named (slot_of w t.books) (drop k l) t.plan) (sym line-then) ∙ ap (λ (x : List ℕ). items_named (slot_of w t.books) (drop (length x) (line_at w t (es ++ e ∷ []))) t.plan) (sym ended-same);
-        ended_first = ap (λ (x : List ℕ). take (length x) (line_at w t (es ++ e ∷ []))) ended-same ∙ ap (take k) line-then ∙ d.ended_first ∙ sym ended-same;
+        held_is = held-shut w w s.books.table.rota ∙ d.held_is
+            ∙ sym (names-same w s t (drop k (line_at w s es)) slot-is refl refl)
+            ∙ ap (λ (l : List ℕ). items_named (slot_of w t.books) (drop k l) t.plan) (sym line-then)
+            ∙ ap (λ (x : List ℕ). items_named (slot_of w t.books) (drop (length x) (line_at w t (es ++ e ∷ []))) t.plan) (sym ended-same);
+        ended_first = ap (λ (x : List ℕ). take (length x) (line_at w t (es ++ e ∷ []))) ended-same
+            ∙ ap (take k) line-then ∙ d.ended_first ∙ sym ended-same;
         reported = ap (λ (l : List ℕ). all_among l s.books.table.reported) (names-same w s t (ends_by w (es ++ e ∷ [])) slot-is refl refl)
-            ∙ ap (λ (l : List ℕ). all_among (items_named (slot_of w s.books) l s.plan) s.books.table.reported) ended-same ∙ d.reported;
+            ∙ ap (λ (l : List ℕ). all_among (items_named (slot_of w s.books) l s.plan) s.books.table.reported) ended-same
+            ∙ d.reported;
         fair = ap (λ (z : ℕ). are_fair z [] (told_to w (es ++ e ∷ [])) (answers_by w (es ++ e ∷ []))) size-is
-            ∙ ap (λ (os : List Order). are_fair size [] os (answers_by w (es ++ e ∷ []))) told-more ∙ ap (are_fair size [] (told_to w es ++ order.Shutdown ∷ [])) answers-same
+            ∙ ap (λ (os : List Order). are_fair size [] os (answers_by w (es ++ e ∷ []))) told-more
+            ∙ ap (are_fair size [] (told_to w es ++ order.Shutdown ∷ [])) answers-same
             ∙ fair-more size [] (told_to w es) order.Shutdown (answers_by w es) d.fair refl;
         last = ap marks_last told-more ∙ marks-more (told_to w es) order.Shutdown unshut;
-        marks = has-set w w (λ m. m.shut) (made_shut w) s.books.members (λ m. refl) (λ m. refl) ∙ ap (λ (b : Bool). if b then is_member w s.books.members else is_shut w s.books) own
+        marks = has-set w w (λ m. m.shut) (made_shut w) s.books.members (λ m. refl) (λ m. refl)
+            ∙ ap (λ (b : Bool). if b then is_member w s.books.members else is_shut w s.books) own
             ∙ has-member w (λ m. m.active) s.books.members q.0
             ∙ sym (ap (list_any is_shutdown) told-more ∙ list_any-append is_shutdown (told_to w es) (order.Shutdown ∷ []) ∙ last-one (list_any is_shutdown (told_to w es)));
-        open_steal = d.open_steal ∙ ap (λ (l : List (List ℕ)). drop (length l) (steals_asked (told_to w es))) (sym answers-same) ∙ ap (drop (length (answers_by w (es ++ e ∷ [])))) (sym steals-same);
+        open_steal = d.open_steal
+            ∙ ap (λ (l : List (List ℕ)). drop (length l) (steals_asked (told_to w es))) (sym answers-same)
+            ∙ ap (drop (length (answers_by w (es ++ e ∷ [])))) (sym steals-same);
         answered = subst (λ (l : List (List ℕ)). length (answers_by w (es ++ e ∷ [])) ≤ length l) (sym steals-same) (subst (λ (l : List (List ℕ)). length l ≤ length (steals_asked (told_to w es))) (sym answers-same) d.answered);
         early = λ r. quiet-more (d.early (sym (seat-change w w (λ x. record x { shut = true }) s.books.table.rota (λ x. refl)) ∙ r));
         unshared = λ r. quiet-more (d.unshared r);

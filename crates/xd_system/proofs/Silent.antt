@@ -38,19 +38,26 @@ pub record Silent (w : ℕ) (all : List Order) (ds : List (ℕ × Outcome)) (s :
   pub dones : outcomes_by w es ≡ ds
 
 module _ (w : ℕ) (all : List Order) (ds : List (ℕ × Outcome)) (s : State) (es : List Entry) (k : Silent w all ds s es) where
-  quiet : (e : Entry) (t : State) → told_to w (e ∷ []) ≡ [] → outcomes_by w (e ∷ []) ≡ [] → has_member w (λ m. true) t.books ≡ has_member w (λ m. true) s.books → is_active w t.books ≡ false → Silent w all ds t (es ++ e ∷ [])
+  quiet : (e : Entry) (t : State) → told_to w (e ∷ []) ≡ [] → outcomes_by w (e ∷ []) ≡ []
+      → has_member w (λ m. true) t.books ≡ has_member w (λ m. true) s.books → is_active w t.books ≡ false
+      → Silent w all ds t (es ++ e ∷ [])
   quiet e t a d b c = record {
     member = b ∙ k.member;
     gone = c;
-    told = filter_map-append (order_told w) es (e ∷ []) ∙ ap (λ (l : List Order). told_to w es ++ l) a ∙ append-nil (told_to w es) ∙ k.told;
-    dones = filter_map-append (outcome_in w) es (e ∷ []) ∙ ap (λ (l : List (ℕ × Outcome)). outcomes_by w es ++ l) d ∙ append-nil (outcomes_by w es) ∙ k.dones;
+    told = filter_map-append (order_told w) es (e ∷ []) ∙ ap (λ (l : List Order). told_to w es ++ l) a
+        ∙ append-nil (told_to w es) ∙ k.told;
+    dones = filter_map-append (outcome_in w) es (e ∷ []) ∙ ap (λ (l : List (ℕ × Outcome)). outcomes_by w es ++ l) d
+        ∙ append-nil (outcomes_by w es) ∙ k.dones;
   }
 
-  same : (e : Entry) (t : State) (change : Member → Member) → told_to w (e ∷ []) ≡ [] → outcomes_by w (e ∷ []) ≡ [] → t.books.members ≡ map change s.books.members
-      → ((m : Member) → (change m).worker ≡ m.worker) → ((m : Member) → (change m).active ≡ m.active) → Silent w all ds t (es ++ e ∷ [])
+  same : (e : Entry) (t : State) (change : Member → Member) → told_to w (e ∷ []) ≡ [] → outcomes_by w (e ∷ []) ≡ []
+      → t.books.members ≡ map change s.books.members
+      → ((m : Member) → (change m).worker ≡ m.worker) → ((m : Member) → (change m).active ≡ m.active)
+      → Silent w all ds t (es ++ e ∷ [])
   same e t change a d m x y = quiet e t a d (ap (has w (λ m. true)) m ∙ has-same w (λ m. true) change s.books.members x (λ m. refl)) (ap (has w (λ m. m.active)) m ∙ has-same w (λ m. m.active) change s.books.members x y ∙ k.gone)
 
-  leave : (e : Entry) (t : State) (v : ℕ) → told_to w (e ∷ []) ≡ [] → outcomes_by w (e ∷ []) ≡ [] → t.books.members ≡ map (made_gone v) s.books.members → Silent w all ds t (es ++ e ∷ [])
+  leave : (e : Entry) (t : State) (v : ℕ) → told_to w (e ∷ []) ≡ [] → outcomes_by w (e ∷ []) ≡ []
+      → t.books.members ≡ map (made_gone v) s.books.members → Silent w all ds t (es ++ e ∷ [])
   leave e t v a d m = quiet e t a d (ap (has w (λ m. true)) m ∙ has-same w (λ m. true) (made_gone v) s.books.members (λ m. refl) (λ m. refl))
       (ap (has w (λ m. m.active)) m ∙ has-cleared w v (λ m. m.active) (made_gone v) s.books.members (λ m. refl) (λ m. refl) ∙ ap (λ (b : Bool). not (w == v) && b) k.gone ∙ none (not (w == v)))
     where
@@ -92,7 +99,8 @@ module _ (w : ℕ) (all : List Order) (ds : List (ℕ × Outcome)) (s : State) (
   said (Kill v) m = absurd (differ m)
   said (Over how) m = absurd (differ m)
 
-  told-start : (v slot : ℕ) → is_orderly s (Start v slot) ≡ true → Silent w all ds (after_effect s (Start v slot)) (es ++ Start v slot ∷ [])
+  told-start : (v slot : ℕ) → is_orderly s (Start v slot) ≡ true
+      → Silent w all ds (after_effect s (Start v slot)) (es ++ Start v slot ∷ [])
   told-start v slot m = quiet (Start v slot) (after_effect s (Start v slot)) refl refl (kept (λ m. true)) (kept (λ m. m.active) ∙ k.gone)
     where
       apart : (v == w) ≡ false
@@ -106,7 +114,9 @@ module _ (w : ℕ) (all : List Order) (ds : List (ℕ × Outcome)) (s : State) (
       none false c = refl
 
       kept : (test : Member → Bool) → has w test (s.books.members ++ started v slot ∷ []) ≡ has w test s.books.members
-      kept test = has-more w test s.books.members (started v slot) ∙ ap (λ (b : Bool). has w test s.books.members || (b && test (started v slot))) apart ∙ none (has w test s.books.members) (test (started v slot))
+      kept test = has-more w test s.books.members (started v slot)
+          ∙ ap (λ (b : Bool). has w test s.books.members || (b && test (started v slot))) apart
+          ∙ none (has w test s.books.members) (test (started v slot))
 
   told : (e : Entry) → Placed s → is_orderly s e ≡ true → Silent w all ds (after_effect s e) (es ++ e ∷ [])
   told (Start v slot) p m = told-start v slot m
@@ -132,7 +142,8 @@ module _ (w : ℕ) (all : List Order) (ds : List (ℕ × Outcome)) (s : State) (
   told (Down v c b) p m = absurd (differ m)
   told (NotStarted v) p m = absurd (differ m)
 
-pub keeps_silent : (settings : Settings) (w : ℕ) (all : List Order) (ds : List (ℕ × Outcome)) → Keeps settings (Silent w all ds)
+pub keeps_silent : (settings : Settings) (w : ℕ) (all : List Order) (ds : List (ℕ × Outcome))
+    → Keeps settings (Silent w all ds)
 keeps_silent settings w all ds = record {
   said = λ s es e t m at k. said w all ds s es k e m;
   told = λ s es e p m at k. told w all ds s es k e p m;

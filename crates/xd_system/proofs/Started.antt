@@ -20,10 +20,13 @@ use Rattle.xd_laws.proofs.Walk.{Keeps}
 abbrev pub WasStarted : ℕ → State → List Entry → Type 0
 WasStarted w s es = has_member w (λ m. true) s.books ≡ true
 
-pub keep-member : (w : ℕ) (change : Member → Member) (ms : List Member) → ((m : Member) → (change m).worker ≡ m.worker) → has w (λ m. true) ms ≡ true → has w (λ m. true) (map change ms) ≡ true
+pub keep-member : (w : ℕ) (change : Member → Member) (ms : List Member)
+    → ((m : Member) → (change m).worker ≡ m.worker) → has w (λ m. true) ms ≡ true
+    → has w (λ m. true) (map change ms) ≡ true
 keep-member w change ms k h = has-same w (λ m. true) change ms k (λ m. refl) ∙ h
 
-pub member-said : (w : ℕ) (s : State) (e : Entry) → may_follow s e ≡ true → WasStarted w s [] → WasStarted w (after_effect s e) []
+pub member-said : (w : ℕ) (s : State) (e : Entry) → may_follow s e ≡ true → WasStarted w s []
+    → WasStarted w (after_effect s e) []
 member-said w s (Ready v) m h = keep-member w (made_ready v) s.books.members (λ m. refl) h
 member-said w s (Collected v g) m h =
     let k = keep-member w (made_collected v) s.books.members (λ m. refl) h in
@@ -42,8 +45,10 @@ member-said w s (Shutdown v) m h = absurd (differ m)
 member-said w s (Kill v) m h = absurd (differ m)
 member-said w s (Over how) m h = absurd (differ m)
 
-pub member-told : (w : ℕ) (s : State) (e : Entry) → is_orderly s e ≡ true → WasStarted w s [] → WasStarted w (after_effect s e) []
-member-told w s (Start v slot) m h = has-more w (λ m. true) s.books.members (started v slot) ∙ ap (λ (b : Bool). b || ((v == w) && true)) h
+pub member-told : (w : ℕ) (s : State) (e : Entry) → is_orderly s e ≡ true → WasStarted w s []
+    → WasStarted w (after_effect s e) []
+member-told w s (Start v slot) m h = has-more w (λ m. true) s.books.members (started v slot)
+    ∙ ap (λ (b : Bool). b || ((v == w) && true)) h
 member-told w s (Run v ns) m h = h
 member-told w s (RunAll v) m h = h
 member-told w s (Steal v ns) m h = h

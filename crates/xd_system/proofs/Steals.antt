@@ -44,7 +44,8 @@ is_among-last : (n m : ℕ) (xs : List ℕ) → is_among n (xs ++ m ∷ []) ≡ 
 is_among-last n m [] = grind (arith, nat_tests)
 is_among-last n m (x ∷ xs) = grind (arith, nat_tests, is_among-last n m xs)
 
-can_ask-new : (size : ℕ) (before ns : List ℕ) → all_distinct ns ≡ true → list_all (λ n. nat_lt n size) ns ≡ true → ((n : ℕ) → among n ns ≡ true → is_among n before ≡ false) → can_ask size before ns ≡ true
+can_ask-new : (size : ℕ) (before ns : List ℕ) → all_distinct ns ≡ true → list_all (λ n. nat_lt n size) ns ≡ true
+    → ((n : ℕ) → among n ns ≡ true → is_among n before ≡ false) → can_ask size before ns ≡ true
 can_ask-new size before [] d low new = refl
 can_ask-new size before (n ∷ ns) d low new =
     let p = split-and (not (among n ns)) (all_distinct ns) d in
@@ -81,7 +82,8 @@ queued-tests : (Q ns : List ℕ) → all_queued (map Test Q) ns ≡ all_among ns
 queued-tests Q [] = refl
 queued-tests Q (n ∷ ns) = rw (has_test-in n Q, queued-tests Q ns) refl
 
-stolen-by : (b : Bool) (x : ℕ) (xs : List ℕ) (ys : List ℕ) → xs ≡ ys → (if b then x ∷ xs else xs) ≡ (if b then x ∷ ys else ys)
+stolen-by : (b : Bool) (x : ℕ) (xs : List ℕ) (ys : List ℕ) → xs ≡ ys
+    → (if b then x ∷ xs else xs) ≡ (if b then x ∷ ys else ys)
 stolen-by b x xs ys e = ap (λ (l : List ℕ). if b then x ∷ l else l) e
 
 stolen-is : (ns Q : List ℕ) → stolen_tests ns (map Test Q) ≡ filter (λ n. among n ns) Q
@@ -90,7 +92,8 @@ stolen-is ns (x ∷ Q) =
     ap (λ (b : Bool). if b then x ∷ stolen_tests ns (map Test Q) else stolen_tests ns (map Test Q)) (is_among-same x ns)
     ∙ stolen-by (among x ns) x (stolen_tests ns (map Test Q)) (filter (λ n. among n ns) Q) (stolen-is ns Q)
 
-kept-by : (b : Bool) (x : ℕ) (K : List LineEntry) (ys : List ℕ) → K ≡ map Test ys → (if b then K else Test x ∷ K) ≡ map Test (if not b then x ∷ ys else ys)
+kept-by : (b : Bool) (x : ℕ) (K : List LineEntry) (ys : List ℕ) → K ≡ map Test ys
+    → (if b then K else Test x ∷ K) ≡ map Test (if not b then x ∷ ys else ys)
 kept-by true x K ys e = e
 kept-by false x K ys e = ap (λ (l : List LineEntry). Test x ∷ l) e
 
@@ -102,28 +105,35 @@ kept-tests ns (x ∷ Q) =
 
 -- where all that is asked stands after a place, nothing of it stands before
 
-none-kept : (ns P : List ℕ) → ((x : ℕ) → among x P ≡ true → among x ns ≡ false) → (filter (λ n. among n ns) P ≡ []) × (without ns P ≡ P)
+none-kept : (ns P : List ℕ) → ((x : ℕ) → among x P ≡ true → among x ns ≡ false)
+    → (filter (λ n. among n ns) P ≡ []) × (without ns P ≡ P)
 none-kept ns [] h = (refl, refl)
 none-kept ns (x ∷ P) h =
     let here : among x ns ≡ false = h x (grind (arith, nat_tests)) in
     let rest = none-kept ns P (λ y k. h y (grind (arith, nat_tests, k))) in
     (rw here rest.0, ap (λ (b : Bool). if not b then x ∷ without ns P else without ns P) here ∙ ap (λ (l : List ℕ). x ∷ l) rest.1)
 
-front-free : (ns D : List ℕ) (p : ℕ) → all_distinct D ≡ true → all_among ns (drop p D) ≡ true → (x : ℕ) → among x (take p D) ≡ true → among x ns ≡ false
+front-free : (ns D : List ℕ) (p : ℕ) → all_distinct D ≡ true → all_among ns (drop p D) ≡ true → (x : ℕ)
+    → among x (take p D) ≡ true → among x ns ≡ false
 front-free ns D p d h x k = (elim (among x ns) as (λ b. among x ns ≡ b → b ≡ false) [
   | true ↦ λ e. absurd (apart-of x p D d k (among_of-all_among x ns (drop p D) h e))
   | false ↦ λ e. refl
 ]) refl
 
-stolen-all : (ns D : List ℕ) (p : ℕ) → all_distinct D ≡ true → all_among ns (drop p D) ≡ true → filter (λ n. among n ns) (drop p D) ≡ filter (λ n. among n ns) D
+stolen-all : (ns D : List ℕ) (p : ℕ) → all_distinct D ≡ true → all_among ns (drop p D) ≡ true
+    → filter (λ n. among n ns) (drop p D) ≡ filter (λ n. among n ns) D
 stolen-all ns D p d h =
     let none = none-kept ns (take p D) (front-free ns D p d h) in
-    ap (λ (l : List ℕ). l ++ filter (λ n. among n ns) (drop p D)) (sym none.0) ∙ sym (filter-append (λ n. among n ns) (take p D) (drop p D)) ∙ ap (filter (λ n. among n ns)) (take-append-drop p D)
+    ap (λ (l : List ℕ). l ++ filter (λ n. among n ns) (drop p D)) (sym none.0)
+    ∙ sym (filter-append (λ n. among n ns) (take p D) (drop p D))
+    ∙ ap (filter (λ n. among n ns)) (take-append-drop p D)
 
-kept-all : (ns D : List ℕ) (p : ℕ) → all_distinct D ≡ true → all_among ns (drop p D) ≡ true → take p D ++ without ns (drop p D) ≡ without ns D
+kept-all : (ns D : List ℕ) (p : ℕ) → all_distinct D ≡ true → all_among ns (drop p D) ≡ true
+    → take p D ++ without ns (drop p D) ≡ without ns D
 kept-all ns D p d h =
     let none = none-kept ns (take p D) (front-free ns D p d h) in
-    ap (λ (l : List ℕ). l ++ without ns (drop p D)) (sym none.1) ∙ sym (filter-append (λ n. not (among n ns)) (take p D) (drop p D)) ∙ ap (without ns) (take-append-drop p D)
+    ap (λ (l : List ℕ). l ++ without ns (drop p D)) (sym none.1)
+    ∙ sym (filter-append (λ n. not (among n ns)) (take p D) (drop p D)) ∙ ap (without ns) (take-append-drop p D)
 
 -- the line after the answer
 
@@ -133,7 +143,9 @@ drop-length zero (x ∷ xs) ys h = absurd (omega (arith, h))
 drop-length (suc n) [] ys h = absurd (omega (arith, h))
 drop-length (suc n) (x ∷ xs) ys h = drop-length n xs ys (omega (arith, h))
 
-pub dealt-answered : (size : ℕ) (R : List Order) (ns a : List ℕ) (backs : List (List ℕ)) → length backs ≡ length (steals_asked R) → line_given size [] (R ++ Steal ns ∷ []) (backs ++ a ∷ []) ≡ without a (line_given size [] R backs)
+pub dealt-answered : (size : ℕ) (R : List Order) (ns a : List ℕ) (backs : List (List ℕ))
+    → length backs ≡ length (steals_asked R)
+    → line_given size [] (R ++ Steal ns ∷ []) (backs ++ a ∷ []) ≡ without a (line_given size [] R backs)
 dealt-answered size R ns a backs h =
     dealt-append size [] R (Steal ns ∷ []) (backs ++ a ∷ [])
     ∙ ap (λ (l : List ℕ). line_given size l (Steal ns ∷ []) (left_of R (backs ++ a ∷ []))) (dealt-enough size [] R backs (a ∷ []) h)
@@ -152,11 +164,14 @@ count-both (suc j) (suc k) [] h l = absurd (omega (arith, l))
 count-both (suc j) (suc k) (x ∷ xs) h l = (let rest = count-both j k xs (omega (arith, h)) (omega (arith, l)) in omega (arith, rest))
 
 -- the first of the line stay
-first-stays : (ns D : List ℕ) (j p : ℕ) → all_distinct D ≡ true → all_among ns (drop p D) ≡ true → j ≤ p → j ≤ length D → take j (without ns D) ≡ take j D
+first-stays : (ns D : List ℕ) (j p : ℕ) → all_distinct D ≡ true → all_among ns (drop p D) ≡ true → j ≤ p
+    → j ≤ length D → take j (without ns D) ≡ take j D
 first-stays ns D j p d h l within =
-    ap (take j) (sym (kept-all ns D p d h)) ∙ take-append-le j (take p D) (without ns (drop p D)) (count-both j p D l within) ∙ take-shorter j p D l
+    ap (take j) (sym (kept-all ns D p d h))
+    ∙ take-append-le j (take p D) (without ns (drop p D)) (count-both j p D l within) ∙ take-shorter j p D l
 
-head-front : (k p : ℕ) (l m : List LineEntry) (n : ℕ) → head_test (drop k l) ≡ Some n → k < p → head_test (drop k (take p l ++ m)) ≡ Some n
+head-front : (k p : ℕ) (l m : List LineEntry) (n : ℕ) → head_test (drop k l) ≡ Some n → k < p
+    → head_test (drop k (take p l ++ m)) ≡ Some n
 head-front zero zero l m n h q = absurd (omega (arith, q))
 head-front zero (suc p) [] m n h q = absurd cc
 head-front zero (suc p) (Test x ∷ l) m n h q = h
@@ -176,7 +191,8 @@ all-answered : (ns : List ℕ) → is_answer ns ns ≡ true
 all-answered [] = refl
 all-answered (n ∷ ns) = bytes_eq-self (n ∷ ns)
 
-among-drops : (x j p : ℕ) (D X : List ℕ) → j + 1 ≤ p → among x (drop p D) ≡ true → among x (drop 1 (drop j D ++ X)) ≡ true
+among-drops : (x j p : ℕ) (D X : List ℕ) → j + 1 ≤ p → among x (drop p D) ≡ true
+    → among x (drop 1 (drop j D ++ X)) ≡ true
 among-drops x zero zero D X h k = absurd (omega (arith, h))
 among-drops x zero (suc p) [] X h k = absurd (differ k)
 among-drops x zero (suc p) (y ∷ D) X h k = further x p D X k
@@ -196,7 +212,8 @@ among-drops x (suc j) zero D X h k = absurd (omega (arith, h))
 among-drops x (suc j) (suc p) [] X h k = absurd (differ k)
 among-drops x (suc j) (suc p) (y ∷ D) X h k = among-drops x j p D X (omega (arith, h)) k
 
-all-drops : (ns : List ℕ) (j p : ℕ) (D X : List ℕ) → j + 1 ≤ p → all_among ns (drop p D) ≡ true → all_among ns (drop 1 (drop j D ++ X)) ≡ true
+all-drops : (ns : List ℕ) (j p : ℕ) (D X : List ℕ) → j + 1 ≤ p → all_among ns (drop p D) ≡ true
+    → all_among ns (drop 1 (drop j D ++ X)) ≡ true
 all-drops [] j p D X h k = refl
 all-drops (n ∷ ns) j p D X h k = (let q = split-and (among n (drop p D)) (all_among ns (drop p D)) k in rw (among-drops n j p D X h q.0, all-drops ns j p D X h q.1) refl)
 
@@ -209,22 +226,32 @@ module _ (size : ℕ) (orders : List Order) (ns : List ℕ) (news : List What) w
 
   -- the answer leaves what the definitions deal
   module _ (c : FunctionCall) (s : IsServing size orders news c) (unshut : list_any is_shutdown orders ≡ false) (a : List ℕ) (line : List LineEntry) (news2 : List What) (e : news2 ≡ news ++ what.Back a ∷ []) where
-    answered : (line ≡ map Test (without a D)) → take (length (ends_in news)) (without a D) ≡ take (length (ends_in news)) D → ((n : ℕ) → c.running ≡ true → head_test (left c) ≡ Some n → head_test (drop c.ended line) ≡ Some n)
+    answered : (line ≡ map Test (without a D))
+        → take (length (ends_in news)) (without a D) ≡ take (length (ends_in news)) D
+        → ((n : ℕ) → c.running ≡ true → head_test (left c) ≡ Some n → head_test (drop c.ended line) ≡ Some n)
         → IsServing size more news2 (record c { line = line })
     answered is first head =
-        let answers : answers_in news2 ≡ answers_in news ++ a ∷ [] = ap answers_in e ∙ answers-more news (what.Back a) in
-        let ended : ends_in news2 ≡ ends_in news = ap ends_in e ∙ ended-more news (what.Back a) ∙ append-nil (ends_in news) in
+        let answers : answers_in news2 ≡ answers_in news ++ a ∷ [] = ap answers_in e
+        ∙ answers-more news (what.Back a) in
+        let ended : ends_in news2 ≡ ends_in news = ap ends_in e ∙ ended-more news (what.Back a)
+        ∙ append-nil (ends_in news) in
         let log : log_of news2 ≡ log_of news = ap log_of e ∙ log-more news (what.Back a) ∙ same-log (log_of news) a in
-        let row : line_given size [] more (answers_in news2) ≡ without a D = ap (line_given size [] more) answers ∙ dealt-answered size orders ns a (answers_in news) s.answered in
+        let row : line_given size [] more (answers_in news2) ≡ without a D = ap (line_given size [] more) answers
+        ∙ dealt-answered size orders ns a (answers_in news) s.answered in
         record {
           phase = s.phase;
           size_is = s.size_is;
-          line_is = is ∙ ap (λ (l : List ℕ). map Test l) (sym row) ∙ sym (append-nil (map Test (line_given size [] more (answers_in news2)))) ∙ ap (λ (m : List LineEntry). map Test (line_given size [] more (answers_in news2)) ++ m) (sym (no-mark more (shut-more orders (Steal ns) unshut)));
-          answered = ap length answers ∙ length-append (answers_in news) (a ∷ []) ∙ ap (λ (n : ℕ). n + 1) s.answered ∙ sym (ap length (steals-append orders (Steal ns ∷ [])) ∙ length-append (steals_asked orders) (ns ∷ []));
+          line_is = is ∙ ap (λ (l : List ℕ). map Test l) (sym row)
+              ∙ sym (append-nil (map Test (line_given size [] more (answers_in news2))))
+              ∙ ap (λ (m : List LineEntry). map Test (line_given size [] more (answers_in news2)) ++ m) (sym (no-mark more (shut-more orders (Steal ns) unshut)));
+          answered = ap length answers ∙ length-append (answers_in news) (a ∷ []) ∙ ap (λ (n : ℕ). n + 1) s.answered
+              ∙ sym (ap length (steals-append orders (Steal ns ∷ [])) ∙ length-append (steals_asked orders) (ns ∷ []));
           ended_is = s.ended_is ∙ ap length (sym ended);
-          ended_first = ap (λ (x : List ℕ). take (length x) (line_given size [] more (answers_in news2))) ended ∙ ap (take (length (ends_in news))) row ∙ first ∙ s.ended_first ∙ sym ended;
+          ended_first = ap (λ (x : List ℕ). take (length x) (line_given size [] more (answers_in news2))) ended
+              ∙ ap (take (length (ends_in news))) row ∙ first ∙ s.ended_first ∙ sym ended;
           distinct = ap all_distinct row ∙ distinct-filter (λ x. not (among x a)) D s.distinct;
-          within = ap (list_all (λ n. nat_lt n size)) row ∙ all-filtered (λ n. nat_lt n size) (λ x. not (among x a)) D s.within;
+          within = ap (list_all (λ n. nat_lt n size)) row
+              ∙ all-filtered (λ n. nat_lt n size) (λ x. not (among x a)) D s.within;
           log_is = record {
             opened = λ r. (let q = s.log_is.opened r in (ap any_open log ∙ q.0, (q.1.0, head q.1.0 r q.1.1, ap (is_of q.1.0) log ∙ q.1.2), ap number_of log ∙ q.2));
             closed = λ r. (let q = s.log_is.closed r in (ap any_open log ∙ q.0, subst (λ (l : Option Log). number_of l < number_of_log c.ended) (sym log) q.1));
@@ -235,17 +262,21 @@ module _ (size : ℕ) (orders : List Order) (ns : List ℕ) (news : List What) w
         }
 
   -- and it may come
-  may_answer : (c : FunctionCall) (s : IsServing size orders news c) (a : List ℕ) (all : List Order) (b : IsFirstPart more all) → is_answer ns a ≡ true
-      → ((X : List ℕ) → all_among a (drop 1 (drop (length (ends_in news)) D ++ X)) ≡ true) → AnswersSteal size all news a
+  may_answer : (c : FunctionCall) (s : IsServing size orders news c) (a : List ℕ) (all : List Order) (b : IsFirstPart more all)
+      → is_answer ns a ≡ true
+      → ((X : List ℕ) → all_among a (drop 1 (drop (length (ends_in news)) D ++ X)) ≡ true)
+      → AnswersSteal size all news a
   may_answer c s a all b is waits =
       let less = begins-less orders (Steal ns ∷ []) all b in
       record {
         asked = ns;
         later = steals_asked b.0;
-        next = ap (λ (os : List Order). drop (length (answers_in news)) (steals_asked os)) (b.1 ∙ append_assoc orders (Steal ns ∷ []) b.0) ∙ ap (drop (length (answers_in news))) (steals-append orders (Steal ns ∷ b.0))
+        next = ap (λ (os : List Order). drop (length (answers_in news)) (steals_asked os)) (b.1 ∙ append_assoc orders (Steal ns ∷ []) b.0)
+            ∙ ap (drop (length (answers_in news))) (steals-append orders (Steal ns ∷ b.0))
             ∙ drop-length (length (answers_in news)) (steals_asked orders) (ns ∷ steals_asked b.0) (sym s.answered);
         is = is;
-        waits = ap (λ (l : List ℕ). all_among a (drop 1 l)) (holds-further size orders news c s all less) ∙ waits (all_given size less.0);
+        waits = ap (λ (l : List ℕ). all_among a (drop 1 l)) (holds-further size orders news c s all less)
+            ∙ waits (all_given size less.0);
       }
 
 abbrev told_in : List What → CallTurn → List What
@@ -266,7 +297,8 @@ module _ (size : ℕ) (orders : List Order) (ns : List ℕ) (before : List What)
   E = line_given size [] orders (answers_in (told_in before t))
 
   line-tests : t.call.line ≡ map Test E
-  line-tests = k.serves.line_is ∙ ap (λ (l : List LineEntry). map Test E ++ l) (no-mark orders unshut) ∙ append-nil (map Test E)
+  line-tests = k.serves.line_is ∙ ap (λ (l : List LineEntry). map Test E ++ l) (no-mark orders unshut)
+      ∙ append-nil (map Test E)
 
   ended-few : length (ends_in (told_in before t)) ≤ length E
   ended-few = count-taken (length (ends_in (told_in before t))) E (ap length k.serves.ended_first)
@@ -294,12 +326,16 @@ module _ (size : ℕ) (orders : List Order) (ns : List ℕ) (before : List What)
       let q : queue c ≡ map Test (drop p E) = ap (drop p) line-tests ∙ drop-map Test p E in
       let f : front c ≡ map Test (take p E) = ap (take p) line-tests ∙ take-tests p E in
       let asked : ns ≡ filter (λ n. among n ns) E = (bytes_eq-Decides ns (filter (λ n. among n ns) E)).0 part in
-      let a : stolen_tests ns (queue c) ≡ ns = ap (stolen_tests ns) q ∙ stolen-is ns (drop p E) ∙ stolen-all ns E p s.distinct queued ∙ sym asked in
+      let a : stolen_tests ns (queue c) ≡ ns = ap (stolen_tests ns) q ∙ stolen-is ns (drop p E)
+      ∙ stolen-all ns E p s.distinct queued ∙ sym asked in
       let line : front c ++ kept ns (queue c) ≡ map Test (without ns E) =
-      ap (λ (l : List LineEntry). l ++ kept ns (queue c)) f ∙ ap (λ (l : List LineEntry). map Test (take p E) ++ l) (ap (kept ns) q ∙ kept-tests ns (drop p E))
-      ∙ sym (map-append Test (take p E) (without ns (drop p E))) ∙ ap (λ (l : List ℕ). map Test l) (kept-all ns E p s.distinct queued) in
+      ap (λ (l : List LineEntry). l ++ kept ns (queue c)) f
+      ∙ ap (λ (l : List LineEntry). map Test (take p E) ++ l) (ap (kept ns) q ∙ kept-tests ns (drop p E))
+      ∙ sym (map-append Test (take p E) (without ns (drop p E)))
+      ∙ ap (λ (l : List ℕ). map Test l) (kept-all ns E p s.distinct queued) in
       let u : CallTurn = asking (Tell (what.Back (stolen_tests ns (queue c))) ∷ []) (record t { call = record c { line = front c ++ kept ns (queue c) } }) in
-      let e : told_in before u ≡ news ++ what.Back ns ∷ [] = told-more before t.asks (Tell (what.Back (stolen_tests ns (queue c))) ∷ []) ∙ ap (λ (x : List ℕ). news ++ what.Back x ∷ []) a in
+      let e : told_in before u ≡ news ++ what.Back ns ∷ [] = told-more before t.asks (Tell (what.Back (stolen_tests ns (queue c))) ∷ [])
+      ∙ ap (λ (x : List ℕ). news ++ what.Back x ∷ []) a in
       let first : j ≤ p = (let x = passes c in let y = s.ended_is in omega (arith, x, y)) in
       let behind : j + 1 ≤ p = (let x = passes c in let y = s.ended_is in omega (arith, x, y)) in
       record {
@@ -314,12 +350,17 @@ module _ (size : ℕ) (orders : List Order) (ns : List ℕ) (before : List What)
   answers_steal part =
       let s = k.serves in
       let asked : ns ≡ filter (λ n. among n ns) E = (bytes_eq-Decides ns (filter (λ n. among n ns) E)).0 part in
-      let distinct : all_distinct ns ≡ true = ap all_distinct asked ∙ distinct-filter (λ n. among n ns) E s.distinct in
-      let low : list_all (λ n. nat_lt n size) ns ≡ true = ap (list_all (λ n. nat_lt n size)) asked ∙ all-filtered (λ n. nat_lt n size) (λ n. among n ns) E s.within in
-      let can : can_ask t.call.size [] ns ≡ true = ap (λ (z : ℕ). can_ask z [] ns) s.size_is ∙ can_ask-new size [] ns distinct low (λ n h. refl) in
-      let tests : all_queued (queue t.call) ns ≡ all_among ns (drop (passed t.call) E) = ap (λ (l : List LineEntry). all_queued l ns) (ap (drop (passed t.call)) line-tests ∙ drop-map Test (passed t.call) E) ∙ queued-tests (drop (passed t.call) E) ns in
+      let distinct : all_distinct ns ≡ true = ap all_distinct asked
+      ∙ distinct-filter (λ n. among n ns) E s.distinct in
+      let low : list_all (λ n. nat_lt n size) ns ≡ true = ap (list_all (λ n. nat_lt n size)) asked
+      ∙ all-filtered (λ n. nat_lt n size) (λ n. among n ns) E s.within in
+      let can : can_ask t.call.size [] ns ≡ true = ap (λ (z : ℕ). can_ask z [] ns) s.size_is
+      ∙ can_ask-new size [] ns distinct low (λ n h. refl) in
+      let tests : all_queued (queue t.call) ns ≡ all_among ns (drop (passed t.call) E) = ap (λ (l : List LineEntry). all_queued l ns) (ap (drop (passed t.call)) line-tests ∙ drop-map Test (passed t.call) E)
+      ∙ queued-tests (drop (passed t.call) E) ns in
       subst (λ (b : Bool). IsServingTurn size (orders ++ Steal ns ∷ []) before (if b then stolen ns t else ended_early BadCommand t)) (sym can) (go (all_queued (queue t.call) ns) (sym tests))
     where
-      go : (b : Bool) → all_among ns (drop (passed t.call) E) ≡ b → IsServingTurn size (orders ++ Steal ns ∷ []) before (if b then asking (Tell (what.Back (stolen_tests ns (queue t.call))) ∷ []) (record t { call = record (t.call) { line = front t.call ++ kept ns (queue t.call) } }) else asking (Tell (what.Back []) ∷ []) t)
+      go : (b : Bool) → all_among ns (drop (passed t.call) E) ≡ b
+          → IsServingTurn size (orders ++ Steal ns ∷ []) before (if b then asking (Tell (what.Back (stolen_tests ns (queue t.call))) ∷ []) (record t { call = record (t.call) { line = front t.call ++ kept ns (queue t.call) } }) else asking (Tell (what.Back []) ∷ []) t)
       go true h = gives_all h part
       go false h = gives_none

@@ -25,7 +25,8 @@ use Rattle.xd_system.specs.Tells.{are_suite_ids}
 
 -- texts
 
-plain-append : (xs ys : List ℕ) → list_all is_plain xs ≡ true → list_all is_plain ys ≡ true → list_all is_plain (xs ++ ys) ≡ true
+plain-append : (xs ys : List ℕ) → list_all is_plain xs ≡ true → list_all is_plain ys ≡ true
+    → list_all is_plain (xs ++ ys) ≡ true
 plain-append [] ys h k = k
 plain-append (x ∷ xs) ys h k = (let p = split-and (is_plain x) (list_all is_plain xs) h in and p.0 (plain-append xs ys p.1 k))
 
@@ -60,25 +61,30 @@ unlike-last u t before h =
       or-left (bytes_eq u t) false (or-right (list_any (bytes_eq u) before) (bytes_eq u t || false) none),
     )
 
-apart-last : (t : List ℕ) (before texts : List (List ℕ)) → are_apart (before ++ t ∷ []) texts ≡ true → has_text t texts ≡ false
+apart-last : (t : List ℕ) (before texts : List (List ℕ)) → are_apart (before ++ t ∷ []) texts ≡ true
+    → has_text t texts ≡ false
 apart-last t before [] h = refl
 apart-last t before (u ∷ texts) h =
     let p = split-and (not (list_any (bytes_eq u) (before ++ t ∷ []))) (are_apart (before ++ t ∷ []) texts) h in
-    ap (λ (b : Bool). b || has_text t texts) (bytes_eq-sym t u ∙ (unlike-last u t before p.0).1) ∙ apart-last t before texts p.1
+    ap (λ (b : Bool). b || has_text t texts) (bytes_eq-sym t u ∙ (unlike-last u t before p.0).1)
+    ∙ apart-last t before texts p.1
 
-apart-less : (t : List ℕ) (before texts : List (List ℕ)) → are_apart (before ++ t ∷ []) texts ≡ true → are_apart before texts ≡ true
+apart-less : (t : List ℕ) (before texts : List (List ℕ)) → are_apart (before ++ t ∷ []) texts ≡ true
+    → are_apart before texts ≡ true
 apart-less t before [] h = refl
 apart-less t before (u ∷ texts) h =
     let p = split-and (not (list_any (bytes_eq u) (before ++ t ∷ []))) (are_apart (before ++ t ∷ []) texts) h in
     and (ap not (unlike-last u t before p.0).0) (apart-less t before texts p.1)
 
-unrepeated : (k : ℕ) (before texts : List (List ℕ)) → repeat_from k before texts ≡ None → (no_text_twice texts ≡ true) × (are_apart before texts ≡ true)
+unrepeated : (k : ℕ) (before texts : List (List ℕ)) → repeat_from k before texts ≡ None
+    → (no_text_twice texts ≡ true) × (are_apart before texts ≡ true)
 unrepeated k before [] h = (refl, refl)
 unrepeated k before (t ∷ texts) h = go (list_any (bytes_eq t) before) refl (unrepeated (k + 1) (before ++ t ∷ []) texts) h
   where
     go : (b : Bool) → list_any (bytes_eq t) before ≡ b
         → (repeat_from (k + 1) (before ++ t ∷ []) texts ≡ None → (no_text_twice texts ≡ true) × (are_apart (before ++ t ∷ []) texts ≡ true))
-        → (if b then Some k else repeat_from (k + 1) (before ++ t ∷ []) texts) ≡ None → (no_text_twice (t ∷ texts) ≡ true) × (are_apart before (t ∷ texts) ≡ true)
+        → (if b then Some k else repeat_from (k + 1) (before ++ t ∷ []) texts) ≡ None
+        → (no_text_twice (t ∷ texts) ≡ true) × (are_apart before (t ∷ texts) ≡ true)
     go true e rest z = absurd (let q : Some k ≡ None = z in cc)
     go false e rest z =
         let r = rest z in
@@ -86,7 +92,8 @@ unrepeated k before (t ∷ texts) h = go (list_any (bytes_eq t) before) refl (un
 
 -- a test that breaks no rule has an id, by itself and with its group
 
-sound-test : (a b c d : Bool) → (if not a then Some UnknownKey else if b then Some Missing else if not c then Some WrongKind else if not d then Some BadId else None) ≡ None
+sound-test : (a b c d : Bool)
+    → (if not a then Some UnknownKey else if b then Some Missing else if not c then Some WrongKind else if not d then Some BadId else None) ≡ None
     → (c ≡ true) × (d ≡ true)
 sound-test false b c d h = absurd cc
 sound-test true true c d h = absurd cc
@@ -98,11 +105,13 @@ id-there : (o : Option (List ℕ)) → is_some o ≡ true → is_id_if_any o ≡
 id-there None s h = absurd (differ s)
 id-there (Some text) s h = h
 
-id-grouped : (id : List ℕ) (o : Option (List ℕ)) → is_id id ≡ true → is_id_if_any o ≡ true → is_id (with_group id (option_map chars o)) ≡ true
+id-grouped : (id : List ℕ) (o : Option (List ℕ)) → is_id id ≡ true → is_id_if_any o ≡ true
+    → is_id (with_group id (option_map chars o)) ≡ true
 id-grouped id None h k = h
 id-grouped id (Some group) h k = id-longer id (64 ∷ chars group) h (plain-id (chars group) k)
 
-ids-sound : (ms : Members) → fault_of_test ms ≡ None → (is_id (test_of ms).id ≡ true) × (is_id (group_id (test_of ms)) ≡ true)
+ids-sound : (ms : Members) → fault_of_test ms ≡ None
+    → (is_id (test_of ms).id ≡ true) × (is_id (group_id (test_of ms)) ≡ true)
 ids-sound ms h =
     let good = sound-test (has_only_keys is_test_key ms) (lacks_key ms) (has_kinds ms) (has_good_ids ms) h in
     let kinds = split-and (is_some (text_at (codes "id") ms) && is_array_with (each_item_holds is_toml_text) (array_at (codes "run") ms)) (has_group_kind ms) good.0 in
@@ -111,7 +120,8 @@ ids-sound ms h =
     let id = id-there (text_at (codes "id") ms) there.0 ids.0 in
     (id, id-grouped (chars (unwrap_or (text_at (codes "id") ms) [])) (text_at (codes "group") ms) id ids.1)
 
-in-mode : (mode : ModeKind) (t : Test) → is_id t.id ≡ true → is_id (group_id t) ≡ true → is_id (id_by_mode mode t) ≡ true
+in-mode : (mode : ModeKind) (t : Test) → is_id t.id ≡ true → is_id (group_id t) ≡ true
+    → is_id (id_by_mode mode t) ≡ true
 in-mode Local t h k = h
 in-mode Each t h k = h
 in-mode Load t h k = h
@@ -128,7 +138,8 @@ no-fault : (n : ℕ) (o : Option SuiteWhat) → option_map (of_test n) o ≡ Non
 no-fault n None h = refl
 no-fault n (Some w) h = absurd cc
 
-all-ids : (mode : ModeKind) (n : ℕ) (ds : Items) → fault_of_tests n ds ≡ None → list_all is_id (ids_by_mode mode (tests_of ds)) ≡ true
+all-ids : (mode : ModeKind) (n : ℕ) (ds : Items) → fault_of_tests n ds ≡ None
+    → list_all is_id (ids_by_mode mode (tests_of ds)) ≡ true
 all-ids mode n no_items h = refl
 all-ids mode n (item d ds) h =
     let p = neither-fault (option_map (of_test n) (fault_of_test (members_of d))) (fault_of_tests (n + 1) ds) h in
@@ -150,7 +161,8 @@ sound-file true true false o h = absurd cc
 sound-file true true true o h = (refl, h)
 
 -- The ids of each suite file, in each mode, are such as a worker may collect.
-pub suite-ids : (bytes : List ℕ) (tests : List Test) (mode : ModeKind) → IsSuiteOf bytes tests → are_suite_ids (ids_by_mode mode tests) ≡ true
+pub suite-ids : (bytes : List ℕ) (tests : List Test) (mode : ModeKind) → IsSuiteOf bytes tests
+    → are_suite_ids (ids_by_mode mode tests) ≡ true
 suite-ids bytes tests mode s =
     let ds = test_items s.members in
     let good = sound-file (has_only_keys is_suite_key s.members) (has_test_kind s.members) (nat_le (count_items ds) most_tests)

@@ -41,10 +41,13 @@ use Rattle.xd_system.proofs.FirstNews.{fit-ready, fit-refused, begun, begins-ser
 
 -- the orders are such that each may take effect where it stands, by these answers
 pub record Allows (size : ℕ) (all : List Order) (answers : List (List ℕ)) : Type 0 where
-  pub may : (R : List Order) (o : Order) (G : List Order) (backs later : List (List ℕ)) → all ≡ R ++ o ∷ G → answers ≡ backs ++ later → length backs ≡ length (steals_asked R) → MayTake size (line_given size [] R backs) o
+  pub may : (R : List Order) (o : Order) (G : List Order) (backs later : List (List ℕ)) → all ≡ R ++ o ∷ G
+      → answers ≡ backs ++ later → length backs ≡ length (steals_asked R)
+      → MayTake size (line_given size [] R backs) o
   pub marks : marks_last all ≡ true
 
-unshut-before : (R G : List Order) (o : Order) (all : List Order) → marks_last all ≡ true → all ≡ R ++ o ∷ G → list_any is_shutdown R ≡ false
+unshut-before : (R G : List Order) (o : Order) (all : List Order) → marks_last all ≡ true → all ≡ R ++ o ∷ G
+    → list_any is_shutdown R ≡ false
 unshut-before R G o all h e = (elim (list_any is_shutdown R) as (λ b. list_any is_shutdown R ≡ b → b ≡ false) [
   | true ↦ λ k. (let none : o ∷ G ≡ [] = marks-end R (o ∷ G) k (sym (ap marks_last e) ∙ h) in absurd cc)
   | false ↦ λ k. refl
@@ -56,7 +59,9 @@ module _ (size : ℕ) (orders : List Order) (before : List What) (t : CallTurn) 
   abbrev row : List ℕ
   row = line_given size [] orders (answers_in (told_in before t))
 
-  gives : (o : Order) (ns : List ℕ) → IsServing size (orders ++ o ∷ []) (told_in before t) (record (t.call) { line = t.call.line ++ map Test ns }) → can_give t.call.size t.call.line ns ≡ true
+  gives : (o : Order) (ns : List ℕ)
+      → IsServing size (orders ++ o ∷ []) (told_in before t) (record (t.call) { line = t.call.line ++ map Test ns })
+      → can_give t.call.size t.call.line ns ≡ true
       → IsTurn size (orders ++ o ∷ []) before (given true ns t)
   gives o ns s can =
       let u : CallTurn = record t { call = record (t.call) { line = t.call.line ++ map Test ns } } in
@@ -77,33 +82,43 @@ module _ (size : ℕ) (orders : List Order) (before : List What) (t : CallTurn) 
         fit = λ all b m. k.fit all (begins-less orders (Shutdown ∷ []) all b) m;
       })
 
-over-more : (size : ℕ) (orders : List Order) (o : Order) (before : List What) (t : CallTurn) → list_any is_shutdown orders ≡ false → IsOverTurn size orders before t → IsOverTurn size (orders ++ o ∷ []) before t
+over-more : (size : ℕ) (orders : List Order) (o : Order) (before : List What) (t : CallTurn)
+    → list_any is_shutdown orders ≡ false → IsOverTurn size orders before t
+    → IsOverTurn size (orders ++ o ∷ []) before t
 over-more size orders o before t unshut k = record { phase = k.phase; idle = k.idle; said = k.said; left_none = k.left_none; passed_is = k.passed_is; finishes = k.finishes; all_ended = λ c. absurd (differ (sym unshut ∙ (k.all_ended c).shut)); none_ended = k.none_ended; fit = λ all b m. k.fit all (begins-less orders (o ∷ []) all b) m }
 
 -- an order comes to a call that serves, or that is over
-hears : (size : ℕ) (orders : List Order) (o : Order) (before : List What) (t : CallTurn) → size ≤ most_tests → IsTurn size orders before t → list_any is_shutdown orders ≡ false
-    → ((k : IsServingTurn size orders before t) → MayTake size (line_given size [] orders (answers_in (told_in before t))) o) → IsTurn size (orders ++ o ∷ []) before (item_heard true (Some o) t)
+hears : (size : ℕ) (orders : List Order) (o : Order) (before : List What) (t : CallTurn) → size ≤ most_tests
+    → IsTurn size orders before t → list_any is_shutdown orders ≡ false
+    → ((k : IsServingTurn size orders before t) → MayTake size (line_given size [] orders (answers_in (told_in before t))) o)
+    → IsTurn size (orders ++ o ∷ []) before (item_heard true (Some o) t)
 hears size orders o before t few (inl k) unshut may =
     subst (λ (p : Phase). IsTurn size (orders ++ o ∷ []) before (item_heard_in p true (Some o) t)) (sym k.serves.phase) (takes size orders before t k unshut few o (may k))
 hears size orders o before t few (inr k) unshut may =
     subst (λ (p : Phase). IsTurn size (orders ++ o ∷ []) before (item_heard_in p true (Some o) t)) (sym k.phase) (inr (over-more size orders o before t unshut k))
 
 -- the answers so far begin those of a longer turn
-answers-begin : (before : List What) (t u : CallTurn) (all : List (List ℕ)) → Grows t u → IsFirstPart (answers_in (told_in before u)) all → IsFirstPart (answers_in (told_in before t)) all
+answers-begin : (before : List What) (t u : CallTurn) (all : List (List ℕ)) → Grows t u
+    → IsFirstPart (answers_in (told_in before u)) all → IsFirstPart (answers_in (told_in before t)) all
 answers-begin before t u all g b =
-    let e : told_in before u ≡ told_in before t ++ news_of_asks g.0 = ap (λ (l : List Ask). before ++ news_of_asks l) g.1 ∙ told-more before t.asks g.0 in
-    let split : answers_in (told_in before u) ≡ answers_in (told_in before t) ++ answers_in (news_of_asks g.0) = ap answers_in e ∙ filter_map-append answer_of_news (told_in before t) (news_of_asks g.0) in
+    let e : told_in before u ≡ told_in before t ++ news_of_asks g.0 = ap (λ (l : List Ask). before ++ news_of_asks l) g.1
+    ∙ told-more before t.asks g.0 in
+    let split : answers_in (told_in before u) ≡ answers_in (told_in before t) ++ answers_in (news_of_asks g.0) = ap answers_in e
+    ∙ filter_map-append answer_of_news (told_in before t) (news_of_asks g.0) in
     (answers_in (news_of_asks g.0) ++ b.0, b.1 ∙ ap (λ (l : List (List ℕ)). l ++ b.0) split ∙ append_assoc (answers_in (told_in before t)) (answers_in (news_of_asks g.0)) b.0)
 
 module _ (size : ℕ) (all : List Order) (answers : List (List ℕ)) (w : Allows size all answers) (few : size ≤ most_tests) (before : List What) where
   -- one order more of those
-  hears-one : (orders : List Order) (o : Order) (t : CallTurn) → IsTurn size orders before t → IsFirstPart (orders ++ o ∷ []) all → IsFirstPart (answers_in (told_in before t)) answers → IsTurn size (orders ++ o ∷ []) before (item_heard true (Some o) t)
+  hears-one : (orders : List Order) (o : Order) (t : CallTurn) → IsTurn size orders before t
+      → IsFirstPart (orders ++ o ∷ []) all → IsFirstPart (answers_in (told_in before t)) answers
+      → IsTurn size (orders ++ o ∷ []) before (item_heard true (Some o) t)
   hears-one orders o t k b a =
       let e : all ≡ orders ++ o ∷ b.0 = b.1 ∙ append_assoc orders (o ∷ []) b.0 in
       hears size orders o before t few k (unshut-before orders b.0 o all w.marks e) (λ s. w.may orders o b.0 (answers_in (told_in before t)) a.0 e a.1 s.serves.answered)
 
   -- and several
-  hears-all : (os orders : List Order) (t : CallTurn) → IsTurn size orders before t → IsFirstPart (orders ++ os) all → IsFirstPart (answers_in (told_in before (all_heard true (map Some os) t))) answers
+  hears-all : (os orders : List Order) (t : CallTurn) → IsTurn size orders before t → IsFirstPart (orders ++ os) all
+      → IsFirstPart (answers_in (told_in before (all_heard true (map Some os) t))) answers
       → IsTurn size (orders ++ os) before (all_heard true (map Some os) t)
   hears-all [] orders t k b a = subst (λ (l : List Order). IsTurn size l before t) (sym (append-nil orders)) k
   hears-all (o ∷ os) orders t k b a =
@@ -116,7 +131,9 @@ module _ (size : ℕ) (all : List Order) (answers : List (List ℕ)) (w : Allows
       (hears-all os (orders ++ o ∷ []) u (hears-one orders o t k (begins-less (orders ++ o ∷ []) os all b_next) a_now) b_next a)
 
   -- an input to a call that serves
-  serves-input : (orders : List Order) (t : CallTurn) (i : Input) → IsServingTurn size orders before t → comes_in_run i ≡ true → IsFirstPart (orders ++ order_in i) all → IsFirstPart (answers_in (told_in before (answered_in Serving (running_test t.call) true i t))) answers
+  serves-input : (orders : List Order) (t : CallTurn) (i : Input) → IsServingTurn size orders before t
+      → comes_in_run i ≡ true → IsFirstPart (orders ++ order_in i) all
+      → IsFirstPart (answers_in (told_in before (answered_in Serving (running_test t.call) true i t))) answers
       → IsTurn size (orders ++ order_in i) before (answered_in Serving (running_test t.call) true i t)
   serves-input orders t (input.Command None) k h b a = absurd (differ h)
   serves-input orders t (input.Command (Some o)) k h b a =
@@ -143,7 +160,9 @@ module _ (size : ℕ) (before : List What) where
   idle-runs c h = rw h refl
 
   -- an input to a call that is over
-  over-input : (orders : List Order) (t : CallTurn) (i : Input) → IsOverTurn size orders before t → comes_in_run i ≡ true → ((o : Order) → i ≡ input.Command (Some o) → list_any is_shutdown orders ≡ false) → IsOverTurn size (orders ++ order_in i) before (answered_in Over None true i t)
+  over-input : (orders : List Order) (t : CallTurn) (i : Input) → IsOverTurn size orders before t
+      → comes_in_run i ≡ true → ((o : Order) → i ≡ input.Command (Some o) → list_any is_shutdown orders ≡ false)
+      → IsOverTurn size (orders ++ order_in i) before (answered_in Over None true i t)
   over-input orders t (input.Command None) k h u = absurd (differ h)
   over-input orders t (input.Command (Some o)) k h u = over-more size orders o before t (u o refl) k
   over-input orders t input.ReceivingEnded k h u = absurd (differ h)
@@ -181,19 +200,22 @@ CallIs size gs = IsAwaiting gs ⊎ (Serves size gs ⊎ IsDone size gs)
 
 -- what the worker collects has that many tests
 abbrev pub SizedBy : ℕ → List What → Type 0
-SizedBy size all = (ids : List (List ℕ)) (rest : List (List (List ℕ))) → collections_in all ≡ ids ∷ rest → length ids ≡ size
+SizedBy size all = (ids : List (List ℕ)) (rest : List (List (List ℕ))) → collections_in all ≡ ids ∷ rest
+    → length ids ≡ size
 
 tells-now : (gs : List Given) → told_in (tells gs) (call_turn_of (call_after gs)) ≡ tells gs
 tells-now gs = append-nil (tells gs)
 
-as-serving : (size : ℕ) (g : Given) (gs : List Given) → size ≤ most_tests → IsServingTurn size (orders_of (g ∷ gs)) (tells gs) (turn_after gs g) → CallIs size (g ∷ gs)
+as-serving : (size : ℕ) (g : Given) (gs : List Given) → size ≤ most_tests
+    → IsServingTurn size (orders_of (g ∷ gs)) (tells gs) (turn_after gs g) → CallIs size (g ∷ gs)
 as-serving size g gs few k = inr (inl (record {
   few = few;
   is = subst (λ (l : List What). IsServing size (orders_of (g ∷ gs)) l (call_after (g ∷ gs))) (sym (tells-more g gs)) k.serves;
   fit = subst (FitAll size (orders_of (g ∷ gs))) (sym (tells-more g gs)) k.fit;
 }))
 
-as-over : (size : ℕ) (g : Given) (gs : List Given) → IsOverTurn size (orders_of (g ∷ gs)) (tells gs) (turn_after gs g) → CallIs size (g ∷ gs)
+as-over : (size : ℕ) (g : Given) (gs : List Given) → IsOverTurn size (orders_of (g ∷ gs)) (tells gs) (turn_after gs g)
+    → CallIs size (g ∷ gs)
 as-over size g gs k = inr (inr (record {
   phase = k.phase;
   idle = k.idle;
@@ -202,11 +224,13 @@ as-over size g gs k = inr (inr (record {
   passed_is = k.passed_is ∙ ap (λ (l : List What). map Test (ends_in l)) (sym (tells-more g gs));
   all_ended = λ c. subst (EndedAll size (orders_of (g ∷ gs))) (sym (tells-more g gs)) (k.all_ended (sym (ap (list_any is_collected) (tells-more g gs)) ∙ c));
   finishes = λ c. subst Finishes (sym (tells-more g gs)) (k.finishes (sym (ap (list_any is_collected) (tells-more g gs)) ∙ c));
-  none_ended = λ c. ap ends_in (tells-more g gs) ∙ k.none_ended (sym (ap (list_any is_collected) (tells-more g gs)) ∙ c);
+  none_ended = λ c. ap ends_in (tells-more g gs)
+      ∙ k.none_ended (sym (ap (list_any is_collected) (tells-more g gs)) ∙ c);
   fit = subst (FitAll size (orders_of (g ∷ gs))) (sym (tells-more g gs)) k.fit;
 }))
 
-as-call : (size : ℕ) (g : Given) (gs : List Given) → size ≤ most_tests → IsTurn size (orders_of (g ∷ gs)) (tells gs) (turn_after gs g) → CallIs size (g ∷ gs)
+as-call : (size : ℕ) (g : Given) (gs : List Given) → size ≤ most_tests
+    → IsTurn size (orders_of (g ∷ gs)) (tells gs) (turn_after gs g) → CallIs size (g ∷ gs)
 as-call size g gs few (inl k) = as-serving size g gs few k
 as-call size g gs few (inr k) = as-over size g gs k
 
@@ -236,7 +260,8 @@ module _ (size : ℕ) (all : List Order) (answers : List (List ℕ)) (w : Allows
       let q = (split-and (nat_le (length ids) most_tests) (list_all is_id ids) p.0).0 in
       grind (arith, nat_tests, q, e)
 
-  awaits-input : (R : List Order) (i : Input) → comes_in_run i ≡ true → ((ids : List (List ℕ)) → i ≡ input.Suite ids → length ids ≡ size) → IsFirstPart (R ++ order_in i) all
+  awaits-input : (R : List Order) (i : Input) → comes_in_run i ≡ true
+      → ((ids : List (List ℕ)) → i ≡ input.Suite ids → length ids ≡ size) → IsFirstPart (R ++ order_in i) all
       → IsFirstPart (answers_in (told_in (what.Ready ∷ []) (awaiting_turn R i))) answers
       → StillWaits (R ++ order_in i) (awaiting_turn R i) ⊎ (IsOverTurn size (R ++ order_in i) (what.Ready ∷ []) (awaiting_turn R i) ⊎ ((size ≤ most_tests) × IsTurn size (R ++ order_in i) (what.Ready ∷ []) (awaiting_turn R i)))
   awaits-input R (input.Command None) h sized b a = absurd (differ h)
@@ -255,7 +280,8 @@ module _ (size : ℕ) (all : List Order) (answers : List (List ℕ)) (w : Allows
   awaits-input R input.Stop h sized b a = absurd (differ h)
 
   -- what is told with the suite begins with the collection
-  ids-told : (R : List Order) (ids : List (List ℕ)) → (rest : List (List (List ℕ))) × (collections_in (told_in (what.Ready ∷ []) (awaiting_turn R (input.Suite ids))) ≡ ids ∷ rest)
+  ids-told : (R : List Order) (ids : List (List ℕ))
+      → (rest : List (List (List ℕ))) × (collections_in (told_in (what.Ready ∷ []) (awaiting_turn R (input.Suite ids))) ≡ ids ∷ rest)
   ids-told R ids =
       let t = begun (waits_with R) ids in
       let g = grows-all true (map Some R) t in
@@ -265,8 +291,10 @@ module _ (size : ℕ) (all : List Order) (answers : List (List ℕ)) (w : Allows
 
   -- one input more
 
-  awaits-more : (g : Given) (gs : List Given) (whole : List What) → is_of_run g ≡ true → IsAwaiting gs → SizedBy size whole → IsFirstPart (tells (g ∷ gs)) whole
-      → IsFirstPart (orders_of (g ∷ gs)) all → IsFirstPart (answers_in (tells (g ∷ gs))) answers → CallIs size (g ∷ gs)
+  awaits-more : (g : Given) (gs : List Given) (whole : List What) → is_of_run g ≡ true → IsAwaiting gs
+      → SizedBy size whole → IsFirstPart (tells (g ∷ gs)) whole
+      → IsFirstPart (orders_of (g ∷ gs)) all → IsFirstPart (answers_in (tells (g ∷ gs))) answers
+      → CallIs size (g ∷ gs)
   awaits-more g gs whole h k sized t b a =
       let p = split-and g.room (comes_in_run g.input) h in
       let R = orders_of gs in
@@ -275,41 +303,50 @@ module _ (size : ℕ) (all : List Order) (answers : List (List ℕ)) (w : Allows
       ∙ ap (λ (c : FunctionCall). answered_in c.phase (running_test c) true g.input (call_turn_of c)) k.call_is in
       let first : tells gs ≡ what.Ready ∷ [] = ap (λ (l : List Ask). what.Ready ∷ news_of_asks l) k.none in
       let told : tells (g ∷ gs) ≡ told_in (what.Ready ∷ []) (awaiting_turn R g.input) =
-      tells-more g gs ∙ ap (λ (l : List What). told_in l (turn_after gs g)) first ∙ ap (told_in (what.Ready ∷ [])) turn in
+      tells-more g gs ∙ ap (λ (l : List What). told_in l (turn_after gs g)) first
+      ∙ ap (told_in (what.Ready ∷ [])) turn in
       let now : (ids : List (List ℕ)) → g.input ≡ input.Suite ids → length ids ≡ size = λ ids e. (
       let i = ids-told R ids in
       let found : collections_in whole ≡ ids ∷ (i.0 ++ collections_in t.0) =
       ap collections_in t.1 ∙ filter_map-append collection_of_news (tells (g ∷ gs)) t.0
-      ∙ ap (λ (l : List What). collections_in l ++ collections_in t.0) (told ∙ ap (λ (x : Input). told_in (what.Ready ∷ []) (awaiting_turn R x)) e) ∙ ap (λ (l : List (List (List ℕ))). l ++ collections_in t.0) i.1 in
+      ∙ ap (λ (l : List What). collections_in l ++ collections_in t.0) (told ∙ ap (λ (x : Input). told_in (what.Ready ∷ []) (awaiting_turn R x)) e)
+      ∙ ap (λ (l : List (List (List ℕ))). l ++ collections_in t.0) i.1 in
       sized ids (i.0 ++ collections_in t.0) found) in
       elim (awaits-input R g.input p.1 now b (subst (λ (l : List What). IsFirstPart (answers_in l) answers) told a)) [
         | inl s ↦ inl (record {
           call_is = ap (λ (t : CallTurn). t.call) turn ∙ s.call;
-          none = ap (λ (l : List Ask). l ++ (turn_after gs g).asks) k.none ∙ ap (λ (t : CallTurn). t.asks) turn ∙ s.asks;
+          none = ap (λ (l : List Ask). l ++ (turn_after gs g).asks) k.none ∙ ap (λ (t : CallTurn). t.asks) turn
+              ∙ s.asks;
         })
         | inr (inl s) ↦ as-over size g gs (subst (λ (l : List What). IsOverTurn size (orders_of (g ∷ gs)) l (turn_after gs g)) (sym first) (subst (IsOverTurn size (orders_of (g ∷ gs)) (what.Ready ∷ [])) (sym turn) s))
         | inr (inr s) ↦ as-call size g gs s.0 (subst (λ (l : List What). IsTurn size (orders_of (g ∷ gs)) l (turn_after gs g)) (sym first) (subst (IsTurn size (orders_of (g ∷ gs)) (what.Ready ∷ [])) (sym turn) s.1))
       ]
 
-  serves-more : (g : Given) (gs : List Given) → is_of_run g ≡ true → Serves size gs → IsFirstPart (orders_of (g ∷ gs)) all → IsFirstPart (answers_in (tells (g ∷ gs))) answers → CallIs size (g ∷ gs)
+  serves-more : (g : Given) (gs : List Given) → is_of_run g ≡ true → Serves size gs
+      → IsFirstPart (orders_of (g ∷ gs)) all → IsFirstPart (answers_in (tells (g ∷ gs))) answers
+      → CallIs size (g ∷ gs)
   serves-more g gs h k b a =
       let p = split-and g.room (comes_in_run g.input) h in
       let t = call_turn_of (call_after gs) in
       let turn : turn_after gs g ≡ answered_in Serving (running_test t.call) true g.input t =
-      ap (λ (r : Bool). answered_in (call_after gs).phase (running_test (call_after gs)) r g.input t) p.0 ∙ ap (λ (q : Phase). answered_in q (running_test (call_after gs)) true g.input t) k.is.phase in
+      ap (λ (r : Bool). answered_in (call_after gs).phase (running_test (call_after gs)) r g.input t) p.0
+      ∙ ap (λ (q : Phase). answered_in q (running_test (call_after gs)) true g.input t) k.is.phase in
       let here : IsServingTurn size (orders_of gs) (tells gs) t = record {
         serves = subst (λ (l : List What). IsServing size (orders_of gs) l (call_after gs)) (sym (tells-now gs)) k.is;
         fit = subst (FitAll size (orders_of gs)) (sym (tells-now gs)) k.fit;
       } in
-      let told : tells (g ∷ gs) ≡ told_in (tells gs) (answered_in Serving (running_test t.call) true g.input t) = tells-more g gs ∙ ap (told_in (tells gs)) turn in
+      let told : tells (g ∷ gs) ≡ told_in (tells gs) (answered_in Serving (running_test t.call) true g.input t) = tells-more g gs
+      ∙ ap (told_in (tells gs)) turn in
       as-call size g gs k.few (subst (IsTurn size (orders_of (g ∷ gs)) (tells gs)) (sym turn) (serves-input size all answers w k.few (tells gs) (orders_of gs) t g.input here p.1 b (subst (λ (l : List What). IsFirstPart (answers_in l) answers) told a)))
 
-  done-more : (g : Given) (gs : List Given) → is_of_run g ≡ true → IsDone size gs → IsFirstPart (orders_of (g ∷ gs)) all → CallIs size (g ∷ gs)
+  done-more : (g : Given) (gs : List Given) → is_of_run g ≡ true → IsDone size gs
+      → IsFirstPart (orders_of (g ∷ gs)) all → CallIs size (g ∷ gs)
   done-more g gs h k b =
       let p = split-and g.room (comes_in_run g.input) h in
       let t = call_turn_of (call_after gs) in
       let turn : turn_after gs g ≡ answered_in Over None true g.input t =
-      ap (λ (r : Bool). answered_in (call_after gs).phase (running_test (call_after gs)) r g.input t) p.0 ∙ ap (λ (q : Phase). answered_in q (running_test (call_after gs)) true g.input t) k.phase
+      ap (λ (r : Bool). answered_in (call_after gs).phase (running_test (call_after gs)) r g.input t) p.0
+      ∙ ap (λ (q : Phase). answered_in q (running_test (call_after gs)) true g.input t) k.phase
       ∙ ap (λ (r : Option ℕ). answered_in Over r true g.input t) (idle-runs size (tells gs) (call_after gs) k.idle) in
       let here : IsOverTurn size (orders_of gs) (tells gs) t = record {
         phase = k.phase;
@@ -319,25 +356,32 @@ module _ (size : ℕ) (all : List Order) (answers : List (List ℕ)) (w : Allows
         passed_is = k.passed_is ∙ ap (λ (l : List What). map Test (ends_in l)) (sym (tells-now gs));
         all_ended = λ c. subst (EndedAll size (orders_of gs)) (sym (tells-now gs)) (k.all_ended (sym (ap (list_any is_collected) (tells-now gs)) ∙ c));
         finishes = λ c. subst Finishes (sym (tells-now gs)) (k.finishes (sym (ap (list_any is_collected) (tells-now gs)) ∙ c));
-        none_ended = λ c. ap ends_in (tells-now gs) ∙ k.none_ended (sym (ap (list_any is_collected) (tells-now gs)) ∙ c);
+        none_ended = λ c. ap ends_in (tells-now gs)
+            ∙ k.none_ended (sym (ap (list_any is_collected) (tells-now gs)) ∙ c);
         fit = subst (FitAll size (orders_of gs)) (sym (tells-now gs)) k.fit;
       } in
       as-over size g gs (subst (IsOverTurn size (orders_of (g ∷ gs)) (tells gs)) (sym turn) (over-input size (tells gs) (orders_of gs) t g.input here p.1 (λ o e. unshut-before (orders_of gs) b.0 o all w.marks (b.1 ∙ ap (λ (i : Input). (orders_of gs ++ order_in i) ++ b.0) e ∙ append_assoc (orders_of gs) (o ∷ []) b.0))))
 
-  answers-fewer : (g : Given) (gs : List Given) → IsFirstPart (answers_in (tells (g ∷ gs))) answers → IsFirstPart (answers_in (tells gs)) answers
+  answers-fewer : (g : Given) (gs : List Given) → IsFirstPart (answers_in (tells (g ∷ gs))) answers
+      → IsFirstPart (answers_in (tells gs)) answers
   answers-fewer g gs a =
       let x = news_of_asks (turn_after gs g).asks in
-      let split : answers_in (tells (g ∷ gs)) ≡ answers_in (tells gs) ++ answers_in x = ap answers_in (tells-more g gs) ∙ filter_map-append answer_of_news (tells gs) x in
+      let split : answers_in (tells (g ∷ gs)) ≡ answers_in (tells gs) ++ answers_in x = ap answers_in (tells-more g gs)
+      ∙ filter_map-append answer_of_news (tells gs) x in
       (answers_in x ++ a.0, a.1 ∙ ap (λ (l : List (List ℕ)). l ++ a.0) split ∙ append_assoc (answers_in (tells gs)) (answers_in x) a.0)
 
-  tells-fewer : (g : Given) (gs : List Given) (whole : List What) → IsFirstPart (tells (g ∷ gs)) whole → IsFirstPart (tells gs) whole
+  tells-fewer : (g : Given) (gs : List Given) (whole : List What) → IsFirstPart (tells (g ∷ gs)) whole
+      → IsFirstPart (tells gs) whole
   tells-fewer g gs whole t =
       let e : whole ≡ tells gs ++ (news_of_asks (turn_after gs g).asks ++ t.0) =
-      t.1 ∙ ap (λ (l : List What). l ++ t.0) (tells-more g gs) ∙ append_assoc (tells gs) (news_of_asks (turn_after gs g).asks) t.0 in
+      t.1 ∙ ap (λ (l : List What). l ++ t.0) (tells-more g gs)
+      ∙ append_assoc (tells gs) (news_of_asks (turn_after gs g).asks) t.0 in
       (news_of_asks (turn_after gs g).asks ++ t.0, e)
 
   -- after whatever inputs of a run, the call is one of the three, and what it told may come
-  pub call_is : (gs : List Given) (whole : List What) → list_all is_of_run gs ≡ true → SizedBy size whole → IsFirstPart (tells gs) whole → IsFirstPart (orders_of gs) all → IsFirstPart (answers_in (tells gs)) answers → CallIs size gs
+  pub call_is : (gs : List Given) (whole : List What) → list_all is_of_run gs ≡ true → SizedBy size whole
+      → IsFirstPart (tells gs) whole → IsFirstPart (orders_of gs) all → IsFirstPart (answers_in (tells gs)) answers
+      → CallIs size gs
   call_is [] whole h sized t b a = inl (record { call_is = refl; none = refl })
   call_is (g ∷ gs) whole h sized t b a =
       let p = split-and (is_of_run g) (list_all is_of_run gs) h in
@@ -349,7 +393,8 @@ module _ (size : ℕ) (all : List Order) (answers : List (List ℕ)) (w : Allows
       ]
 
   -- what it told may come, whatever further orders are on the way
-  pub tells_fit : (gs : List Given) → CallIs size gs → (more : List Order) → IsFirstPart (orders_of gs) more → marks_last more ≡ true → AllFit size more (tells gs)
+  pub tells_fit : (gs : List Given) → CallIs size gs → (more : List Order) → IsFirstPart (orders_of gs) more
+      → marks_last more ≡ true → AllFit size more (tells gs)
   tells_fit gs (inl k) more b m = subst (AllFit size more) (sym (ap (λ (l : List Ask). what.Ready ∷ news_of_asks l) k.none)) (fit-ready size more)
   tells_fit gs (inr (inl k)) more b m = k.fit more b m
   tells_fit gs (inr (inr k)) more b m = k.fit more b m

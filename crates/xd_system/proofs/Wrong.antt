@@ -21,7 +21,8 @@ use Rattle.xd_system.proofs.Accused.{never_accused}
 use Rattle.xd_system.proofs.Scene.{link_with, run_test, after_steal, before_steal, by, given, stealing, stealing-proper, taken, ten, told_before}
 
 -- whatever came to it and however its link stands, whoever is called in breach was not honest
-not-honest : (news : List News) → is_accused 1 (run_of stealing news).entries ≡ true → (l : LinkNow) → IsHonestAt stealing news 1 l → ⊥
+not-honest : (news : List News) → is_accused 1 (run_of stealing news).entries ≡ true → (l : LinkNow)
+    → IsHonestAt stealing news 1 l → ⊥
 not-honest news breach l honest = differ (sym (never_accused stealing news 1 l stealing-proper honest) ∙ breach)
 
 -- ---- one that gives back its next test, which it runs all the same
@@ -42,7 +43,9 @@ not-placed h = absurd (let e : 7 ∷ 9 ∷ [] ≡ 7 ∷ 8 ∷ 9 ∷ [] = sym tak
 steals-next : is_accused 1 (run_of stealing (taken ++ by 1 (gave_next ++ what.LogClosed 6 ∷ what.Done 7 Passed 1 ∷ what.LogStart 8 8 ∷ []))).entries ≡ true
 steals-next = refl
 
-steals-next-not-honest : (l : LinkNow) → IsHonestAt stealing (taken ++ by 1 (gave_next ++ what.LogClosed 6 ∷ what.Done 7 Passed 1 ∷ what.LogStart 8 8 ∷ [])) 1 l → ⊥
+steals-next-not-honest : (l : LinkNow)
+    → IsHonestAt stealing (taken ++ by 1 (gave_next ++ what.LogClosed 6 ∷ what.Done 7 Passed 1 ∷ what.LogStart 8 8 ∷ [])) 1 l
+    → ⊥
 steals-next-not-honest = not-honest (taken ++ by 1 (gave_next ++ what.LogClosed 6 ∷ what.Done 7 Passed 1 ∷ what.LogStart 8 8 ∷ [])) steals-next
 
 -- the machine gives nothing back there
@@ -54,7 +57,8 @@ machine-keeps-next = refl
 answers-part : is_accused 1 (run_of stealing (taken ++ by 1 (told_before ++ what.Back (9 ∷ []) ∷ []))).entries ≡ true
 answers-part = refl
 
-answers-part-not-honest : (l : LinkNow) → IsHonestAt stealing (taken ++ by 1 (told_before ++ what.Back (9 ∷ []) ∷ [])) 1 l → ⊥
+answers-part-not-honest : (l : LinkNow)
+    → IsHonestAt stealing (taken ++ by 1 (told_before ++ what.Back (9 ∷ []) ∷ [])) 1 l → ⊥
 answers-part-not-honest = not-honest (taken ++ by 1 (told_before ++ what.Back (9 ∷ []) ∷ [])) answers-part
 
 -- or all of it in another order than that of its line
@@ -67,7 +71,8 @@ answers-turned = refl
 completes-seven : is_accused 1 (run_of stealing (taken ++ by 1 (what.LogStart 5 2 ∷ what.LogClosed 2 ∷ what.Done 7 Passed 1 ∷ []))).entries ≡ true
 completes-seven = refl
 
-completes-seven-not-honest : (l : LinkNow) → IsHonestAt stealing (taken ++ by 1 (what.LogStart 5 2 ∷ what.LogClosed 2 ∷ what.Done 7 Passed 1 ∷ [])) 1 l → ⊥
+completes-seven-not-honest : (l : LinkNow)
+    → IsHonestAt stealing (taken ++ by 1 (what.LogStart 5 2 ∷ what.LogClosed 2 ∷ what.Done 7 Passed 1 ∷ [])) 1 l → ⊥
 completes-seven-not-honest = not-honest (taken ++ by 1 (what.LogStart 5 2 ∷ what.LogClosed 2 ∷ what.Done 7 Passed 1 ∷ [])) completes-seven
 
 -- or it starts 7 before 5
@@ -102,7 +107,8 @@ unmarked-unseen : is_accused 1 (run_of stealing (taken ++ by 1 (ran_four ++ what
 unmarked-unseen = refl
 
 -- but nobody honest to whom this came told so
-unmarked-not-honest : IsHonestAt stealing (taken ++ by 1 (ran_four ++ what.LogStart 9 10 ∷ [])) 1 (link_with one_left) → ⊥
+unmarked-not-honest : IsHonestAt stealing (taken ++ by 1 (ran_four ++ what.LogStart 9 10 ∷ [])) 1 (link_with one_left)
+    → ⊥
 unmarked-not-honest h =
     let later = h.news.0 in
     let told : what.Ready ∷ what.Collected ten ∷ ran_four ≡ what.Ready ∷ what.Collected ten ∷ (ran_four ++ what.LogStart 9 10 ∷ later) = h.news.1 in

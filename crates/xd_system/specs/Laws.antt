@@ -79,8 +79,8 @@ owes_step settings taken w =
     let s = (run_of settings taken).state in
     list_any (λ m. m.worker == w) (filter (owes s) s.books.members)
 
--- Something goes on wherever an honest worker owes the next step of the run and its link is whole. So a run that
--- is not over stands still at no moment, since some worker owes.
+-- Something goes on wherever an honest worker owes the next step of the run and its link is whole. So a run that is
+-- not over, and whose workers are honest and have whole links, stands still at no moment, since one of them owes.
 abbrev pub SomethingMoves : Type 0
 SomethingMoves =
     (settings : Settings) (taken : List News) (w : ℕ) (l : LinkNow)
