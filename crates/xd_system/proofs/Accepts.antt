@@ -138,7 +138,8 @@ module _ (w : ℕ) (s : State) (es : List Entry) (earlier : List What) (spent : 
         where
           own : ((b.worker == w) ≡ true) ⊎ ((b.worker == w) ≡ false)
               → ((b.worker == w) && (elim ns as (λ _. Bool) [ [] ↦ true | i ∷ is ↦ bytes_eq (i ∷ is) b.tests && all_among (items_named (slot_of w s.books) (i ∷ is) s.plan) (drop 1 (held w s.books.table)) ])) ≡ true
-          own (inr q) = absurd (let z : [] ≡ a.asked ∷ a.later = sym (ap (asked_of w) e ∙ ap (λ (v : Bool). if v then b.tests ∷ [] else []) q) ∙ unanswered in cc)
+          own (inr q) =
+              absurd (let z : [] ≡ a.asked ∷ a.later = sym (ap (asked_of w) e ∙ ap (λ (v : Bool). if v then b.tests ∷ [] else []) q) ∙ unanswered in cc)
           own (inl q) =
               let z : b.tests ∷ [] ≡ a.asked ∷ a.later = sym (ap (asked_of w) e ∙ ap (λ (v : Bool). if v then b.tests ∷ [] else []) q)
               ∙ unanswered in
@@ -164,7 +165,8 @@ module _ (w : ℕ) (s : State) (es : List Entry) (earlier : List What) (spent : 
   accepts (what.LogStart n number) f = inl (rw (and (and (and (heads n f.head) (ap not f.once)) f.even) f.above) refl)
   accepts (what.Piece number bytes) f = inl (rw f refl)
   accepts (what.LogClosed number) f = inl (rw f refl)
-  accepts (what.Done n outcome ms) f = inr (Done w n outcome ms (output_of w outcome log spent s), rw (and (and (heads n f.head) f.logged) (ap not f.closed)) refl, refl)
+  accepts (what.Done n outcome ms) f =
+      inr (Done w n outcome ms (output_of w outcome log spent s), rw (and (and (heads n f.head) f.logged) (ap not f.closed)) refl, refl)
   accepts (what.Back ns) f = followed (Back w ns) refl (and active (answers-back ns f))
   accepts what.Finished f =
       let empty : held w s.books.table ≡ [] = sym holds-held

@@ -54,17 +54,21 @@ use Rattle.xd_system.proofs.Said.{said-join, said-own}
 
 quiet-holds : (a b : ℕ) (orders : List Order) (news : List What) → is_quiet orders ≡ true
     → holds a orders news ≡ holds b orders news
-quiet-holds a b orders news q = ap (drop (length (ends_in news))) (quiet-line a orders (answers_in news) q ∙ sym (quiet-line b orders (answers_in news) q))
+quiet-holds a b orders news q =
+    ap (drop (length (ends_in news))) (quiet-line a orders (answers_in news) q ∙ sym (quiet-line b orders (answers_in news) q))
 
 fits-any : (a b : ℕ) (orders : List Order) (news : List What) → holds a orders news ≡ holds b orders news → (x : What)
     → FitsNext a orders news x → FitsNext b orders news x
 fits-any a b orders news h what.Ready f = f
 fits-any a b orders news h (what.Collected i) f = f
-fits-any a b orders news h (what.LogStart n m) f = record { head = subst (λ (l : List ℕ). first_of l ≡ Some n) h f.head; once = f.once; even = f.even; above = f.above }
+fits-any a b orders news h (what.LogStart n m) f =
+    record { head = subst (λ (l : List ℕ). first_of l ≡ Some n) h f.head; once = f.once; even = f.even; above = f.above }
 fits-any a b orders news h (what.Piece n c) f = f
 fits-any a b orders news h (what.LogClosed n) f = f
-fits-any a b orders news h (what.Done n o m) f = record { head = subst (λ (l : List ℕ). first_of l ≡ Some n) h f.head; logged = f.logged; closed = f.closed }
-fits-any a b orders news h (what.Back n) f = record { asked = f.asked; later = f.later; next = f.next; is = f.is; waits = subst (λ (l : List ℕ). all_among n (drop 1 l) ≡ true) h f.waits }
+fits-any a b orders news h (what.Done n o m) f =
+    record { head = subst (λ (l : List ℕ). first_of l ≡ Some n) h f.head; logged = f.logged; closed = f.closed }
+fits-any a b orders news h (what.Back n) f =
+    record { asked = f.asked; later = f.later; next = f.next; is = f.is; waits = subst (λ (l : List ℕ). all_among n (drop 1 l) ≡ true) h f.waits }
 fits-any a b orders news h what.Finished f = record { told = f.told; collected = f.collected; none = sym h ∙ f.none }
 fits-any a b orders news h (what.Closed None) f = f
 fits-any a b orders news h (what.Closed (Some t)) f = f
@@ -104,7 +108,8 @@ at-last (z ∷ xs) ys (k ∷ ks) x y e =
     ]
 
 breach-of : (w : ℕ) (e : Entry) → is_breach_of w e ≡ true → (b : List ℕ) × (e ≡ Down w Breach b)
-breach-of w (Down v Breach b) h = (let same : v ≡ w = grind (arith, nat_tests, h) in (b, ap (λ (u : ℕ). Down u Breach b) same))
+breach-of w (Down v Breach b) h =
+    (let same : v ≡ w = grind (arith, nat_tests, h) in (b, ap (λ (u : ℕ). Down u Breach b) same))
 breach-of w e h = absurd (differ h)
 
 pub entries-fold : (r : SoFar) (post : List News)
@@ -266,7 +271,8 @@ module _ (settings : Settings) (taken : List News) (w : ℕ) (l : LinkNow) (prop
 
           go : (i : List (List (List ℕ))) → collections_in (tells l.given) ≡ i → ⊥
           go [] e = by-size 0 (λ ids rest k. absurd (let z : [] ≡ ids ∷ rest = sym e ∙ k in cc))
-          go (own_ ∷ rest_) e = by-size (length own_) (λ ids rest k. (let z : own_ ∷ rest_ ≡ ids ∷ rest = sym e ∙ k in let same : own_ ≡ ids = cc in ap length (sym same)))
+          go (own_ ∷ rest_) e =
+              by-size (length own_) (λ ids rest k. (let z : own_ ∷ rest_ ≡ ids ∷ rest = sym e ∙ k in let same : own_ ≡ ids = cc in ap length (sym same)))
 
       never : ⊥
       never = elim (cases_of (in_rota w r.state.books.table)) [
@@ -276,12 +282,14 @@ module _ (settings : Settings) (taken : List News) (w : ℕ) (l : LinkNow) (prop
 
     told-fine : (later : List What) → told_so_far l ≡ said ++ x ∷ later
         → is_accused w (entry_of (input_of r n)) ≡ false
-    told-fine later e = elim (cases_of (is_accused w (entry_of (input_of r n)))) [ inl a ↦ absurd (never later e a) | inr a ↦ a ]
+    told-fine later e =
+        elim (cases_of (is_accused w (entry_of (input_of r n)))) [ inl a ↦ absurd (never later e a) | inr a ↦ a ]
 
     -- the end of the link
     gone-fine : (cause : Cause) → x ≡ what.Gone cause → is_breach (what.Gone cause) ≡ false
         → is_accused w (entry_of (input_of r n)) ≡ false
-    gone-fine cause e k = ap (λ (o : Option Entry). is_accused w (entry_of o)) (input-is ∙ ap (meaning_of w (log_of said) (spent_by r.entries) r.state) e)
+    gone-fine cause e k =
+        ap (λ (o : Option Entry). is_accused w (entry_of o)) (input-is ∙ ap (meaning_of w (log_of said) (spent_by r.entries) r.state) e)
         ∙ go cause k
       where
         go : (c : Cause) → is_breach (what.Gone c) ≡ false
@@ -328,8 +336,10 @@ module _ (settings : Settings) (taken : List News) (w : ℕ) (l : LinkNow) (prop
 
   inv-all : (post pre : List News) → taken ≡ pre ++ post → HonestSoFar w (run_of settings pre)
       → HonestSoFar w (run_of settings taken)
-  inv-all [] pre split sofar = subst (λ (t : List News). HonestSoFar w (run_of settings t)) (sym (split ∙ append-nil pre)) sofar
-  inv-all (n ∷ post) pre split sofar = inv-all post (pre ++ n ∷ []) (split ∙ sym (append_assoc pre (n ∷ []) post)) (honest-next pre n post split sofar)
+  inv-all [] pre split sofar =
+      subst (λ (t : List News). HonestSoFar w (run_of settings t)) (sym (split ∙ append-nil pre)) sofar
+  inv-all (n ∷ post) pre split sofar =
+      inv-all post (pre ++ n ∷ []) (split ∙ sym (append_assoc pre (n ∷ []) post)) (honest-next pre n post split sofar)
 
   -- what holds of an honest worker at each moment
   pub inv-honest : HonestSoFar w (run_of settings taken)

@@ -21,7 +21,8 @@ abbrev pub Within : List ℕ → List ℕ → Type 0
 Within xs ys = (x : ℕ) → among x xs ≡ true → among x ys ≡ true
 
 pub within-append : (xs ys zs : List ℕ) → Within xs ys → Within (xs ++ zs) (ys ++ zs)
-within-append xs ys zs k x h = elim (cases_of (among x xs)) [ inl a ↦ first ys (k x a) | inr a ↦ last ys (rest xs a h) ]
+within-append xs ys zs k x h =
+    elim (cases_of (among x xs)) [ inl a ↦ first ys (k x a) | inr a ↦ last ys (rest xs a h) ]
   where
     first : (us : List ℕ) → among x us ≡ true → among x (us ++ zs) ≡ true
     first [] a = absurd (differ a)
@@ -41,14 +42,17 @@ within-without those xs ys k x h =
     among-filter x (λ y. not (among y those)) ys ∙ and a.0 (k x a.1)
 
 pub within-less : (those xs ys : List ℕ) → Within xs ys → Within (without those xs) ys
-within-less those xs ys k x h = k x (split-and (not (among x those)) (among x xs) (sym (among-filter x (λ y. not (among y those)) xs) ∙ h)).1
+within-less those xs ys k x h =
+    k x (split-and (not (among x those)) (among x xs) (sym (among-filter x (λ y. not (among y those)) xs) ∙ h)).1
 
 -- the line with fewer answers has all of the line with more
 dealt-within : (size : ℕ) (R : List Order) (xs ys : List ℕ) (backs more : List (List ℕ)) → Within xs ys
     → Within (line_given size xs R (backs ++ more)) (line_given size ys R backs)
 dealt-within size [] xs ys backs more k = k
-dealt-within size (RunTests ns ∷ R) xs ys backs more k = dealt-within size R (xs ++ ns) (ys ++ ns) backs more (within-append xs ys ns k)
-dealt-within size (RunAll ∷ R) xs ys backs more k = dealt-within size R (xs ++ range_with_len 0 size) (ys ++ range_with_len 0 size) backs more (within-append xs ys (range_with_len 0 size) k)
+dealt-within size (RunTests ns ∷ R) xs ys backs more k =
+    dealt-within size R (xs ++ ns) (ys ++ ns) backs more (within-append xs ys ns k)
+dealt-within size (RunAll ∷ R) xs ys backs more k =
+    dealt-within size R (xs ++ range_with_len 0 size) (ys ++ range_with_len 0 size) backs more (within-append xs ys (range_with_len 0 size) k)
 dealt-within size (Shutdown ∷ R) xs ys backs more k = dealt-within size R xs ys backs more k
 dealt-within size (Steal ns ∷ R) xs ys [] more k =
     let a : Within (without (first_answer more) xs) (without [] ys) = λ x h. subst (λ (l : List ℕ). among x l ≡ true) (sym (none ys)) (within-less (first_answer more) xs ys k x h) in
@@ -57,11 +61,13 @@ dealt-within size (Steal ns ∷ R) xs ys [] more k =
     none : (us : List ℕ) → without [] us ≡ us
     none [] = refl
     none (u ∷ us) = ap (λ (l : List ℕ). u ∷ l) (none us)
-dealt-within size (Steal ns ∷ R) xs ys (a ∷ backs) more k = dealt-within size R (without a xs) (without a ys) backs more (within-without a xs ys k)
+dealt-within size (Steal ns ∷ R) xs ys (a ∷ backs) more k =
+    dealt-within size R (without a xs) (without a ys) backs more (within-without a xs ys k)
 
 -- new in a line is new in a part of it
 pub new-within : (size : ℕ) (xs ys ns : List ℕ) → Within xs ys → are_new size ys ns ≡ true → are_new size xs ns ≡ true
-new-within size xs ys ns k h = (let p = split-and (list_all (λ n. nat_lt n size && not (among n ys)) ns) (all_distinct ns) h in and (each ns p.0) p.1)
+new-within size xs ys ns k h =
+    (let p = split-and (list_all (λ n. nat_lt n size && not (among n ys)) ns) (all_distinct ns) h in and (each ns p.0) p.1)
   where
     one : (n : ℕ) → not (among n ys) ≡ true → not (among n xs) ≡ true
     one n a = elim (cases_of (among n xs)) [ inl b ↦ absurd (differ (sym (ap not (k n b)) ∙ a)) | inr b ↦ ap not b ]
@@ -78,7 +84,8 @@ new-within size xs ys ns k h = (let p = split-and (list_all (λ n. nat_lt n size
 fair-at : (size : ℕ) (line : List ℕ) (R : List Order) (o : Order) (G : List Order) (backs : List (List ℕ))
     → are_fair size line (R ++ o ∷ G) backs ≡ true
     → may_be_told size (line_given size line R backs) o (left_of R backs) ≡ true
-fair-at size line [] o G backs h = (split-and (may_be_told size line o backs) (are_fair size (line_after size line o backs) G (answers_left o backs)) h).0
+fair-at size line [] o G backs h =
+    (split-and (may_be_told size line o backs) (are_fair size (line_after size line o backs) G (answers_left o backs)) h).0
 fair-at size line (p ∷ R) o G backs h =
     fair-at size (line_after size line p backs) R o G (answers_left p backs) (split-and (may_be_told size line p backs) (are_fair size (line_after size line p backs) (R ++ o ∷ G) (answers_left p backs)) h).1
 

@@ -36,7 +36,8 @@ either x (z ∷ xs) ys h k = grind (arith, nat_tests, either x xs ys, h, k)
 -- what stands in the line is not given again
 not-new : (size : ℕ) (line ns : List ℕ) (x : ℕ) → among x line ≡ true → are_new size line ns ≡ true
     → among x ns ≡ false
-not-new size line ns x here h = go ns (split-and (list_all (λ n. nat_lt n size && not (among n line)) ns) (all_distinct ns) h).0
+not-new size line ns x here h =
+    go ns (split-and (list_all (λ n. nat_lt n size && not (among n line)) ns) (all_distinct ns) h).0
   where
     go : (ms : List ℕ) → list_all (λ n. nat_lt n size && not (among n line)) ms ≡ true → among x ms ≡ false
     go [] a = refl
@@ -70,7 +71,8 @@ dealt-back size line [] backs ns unanswered f = absurd (none backs unanswered)
     none : (bs : List (List ℕ)) → drop (length bs) [] ≡ ns ∷ [] → ⊥
     none [] e = cc
     none (b ∷ bs) e = cc
-dealt-back size line (RunTests ms ∷ R) backs ns unanswered f = dealt-back size (line ++ ms) R backs ns unanswered (split-and (are_new size line ms) (are_fair size (line ++ ms) R backs) f).1
+dealt-back size line (RunTests ms ∷ R) backs ns unanswered f =
+    dealt-back size (line ++ ms) R backs ns unanswered (split-and (are_new size line ms) (are_fair size (line ++ ms) R backs) f).1
 dealt-back size line (RunAll ∷ R) backs ns unanswered f =
     dealt-back size (line ++ range_with_len 0 size) R backs ns unanswered (split-and (are_new size line (range_with_len 0 size)) (are_fair size (line ++ range_with_len 0 size) R backs) f).1
 dealt-back size line (Shutdown ∷ R) backs ns unanswered f = dealt-back size line R backs ns unanswered f

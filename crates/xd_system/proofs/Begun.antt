@@ -29,13 +29,14 @@ split-both (b ∷ before) n after (p ∷ pre) post e =
 pub later-begun : (settings : Settings) (pre post : List News) (w : ℕ) → IsProper settings []
     → has_member w (λ m. true) (run_of settings pre).state.books ≡ true
     → said_by w pre ≡ [] → AfterStart settings (pre ++ post) w
-later-begun settings pre post w proper begun silent before n after e own = elim (split-both before n after pre post (sym e)) [
-  | inl k ↦ subst (λ (l : List News). has_member w (λ m. true) (run_of settings l).state.books ≡ true) (sym k.1)
-      (ap (λ (q : SoFar). has_member w (λ m. true) q.state.books) (fold-append after_news (begun_run settings) pre k.0)
-      ∙ member-fold settings w (run_of settings pre) k.0 (sound-run settings pre proper) begun)
-  | inr k ↦ absurd (none (said_by w before) (said_by w k.0) (sym silent ∙ ap (said_by w) k.1 ∙ said-join w before (n ∷ k.0)
-      ∙ ap (λ (l : List What). said_by w before ++ l) (said-join w (n ∷ []) k.0 ∙ ap (λ (l : List What). l ++ said_by w k.0) (said-own w n own))))
-]
+later-begun settings pre post w proper begun silent before n after e own =
+    elim (split-both before n after pre post (sym e)) [
+      | inl k ↦ subst (λ (l : List News). has_member w (λ m. true) (run_of settings l).state.books ≡ true) (sym k.1)
+          (ap (λ (q : SoFar). has_member w (λ m. true) q.state.books) (fold-append after_news (begun_run settings) pre k.0)
+          ∙ member-fold settings w (run_of settings pre) k.0 (sound-run settings pre proper) begun)
+      | inr k ↦ absurd (none (said_by w before) (said_by w k.0) (sym silent ∙ ap (said_by w) k.1 ∙ said-join w before (n ∷ k.0)
+          ∙ ap (λ (l : List What). said_by w before ++ l) (said-join w (n ∷ []) k.0 ∙ ap (λ (l : List What). l ++ said_by w k.0) (said-own w n own))))
+    ]
   where
     none : (xs ys : List What) → [] ≡ xs ++ n.what ∷ ys → ⊥
     none [] ys z = cc

@@ -51,7 +51,8 @@ held-completed w item [] = refl
 held-completed w item (s ∷ ss) = grind (arith, nat_tests, held-completed w item ss)
 
 held-distinct : (s : State) (w : ℕ) → Placed s → all_distinct (held w s.books.table) ≡ true
-held-distinct s w k = distinct-of_times (held w s.books.table) (λ x. omega (arith, at_most_once s k x, times-table x s.books.table, held-within x w s.books.table.rota))
+held-distinct s w k =
+    distinct-of_times (held w s.books.table) (λ x. omega (arith, at_most_once s k x, times-table x s.books.table, held-within x w s.books.table.rota))
 
 -- the entry is no order and no answer, and ends this test
 

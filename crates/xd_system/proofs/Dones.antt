@@ -85,7 +85,8 @@ awaiting-dones : (R : List Order) (i : Input) → comes_in_run i ≡ true → do
 awaiting-dones R (input.Command None) h = absurd (differ h)
 awaiting-dones R (input.Command (Some o)) h = refl
 awaiting-dones R input.ReceivingEnded h = absurd (differ h)
-awaiting-dones R (input.Suite ids) h = grown-dones (begun (waits_with R) ids) (all_heard true (map Some R) (begun (waits_with R) ids)) (grows-all true (map Some R) (begun (waits_with R) ids))
+awaiting-dones R (input.Suite ids) h =
+    grown-dones (begun (waits_with R) ids) (all_heard true (map Some R) (begun (waits_with R) ids)) (grows-all true (map Some R) (begun (waits_with R) ids))
 awaiting-dones R (input.SuiteRefused text) h = refl
 awaiting-dones R (input.Output bytes) h = refl
 awaiting-dones R (input.Done outcome ms) h = refl

@@ -62,13 +62,20 @@ echo-none w = record { answers = refl; ended = refl; ready = refl; collected = r
 -- outputs say nothing
 
 orderly-one : (w : ℕ) (s : State) (e : Entry) → is_orderly s e ≡ true → Echo w (e ∷ []) []
-orderly-one w s (Start v slot) h = record { answers = refl; ended = refl; ready = refl; collected = refl; dones = refl; unaccused = refl }
-orderly-one w s (Run v ns) h = record { answers = refl; ended = refl; ready = refl; collected = refl; dones = refl; unaccused = refl }
-orderly-one w s (RunAll v) h = record { answers = refl; ended = refl; ready = refl; collected = refl; dones = refl; unaccused = refl }
-orderly-one w s (Steal v ns) h = record { answers = refl; ended = refl; ready = refl; collected = refl; dones = refl; unaccused = refl }
-orderly-one w s (Shutdown v) h = record { answers = refl; ended = refl; ready = refl; collected = refl; dones = refl; unaccused = refl }
-orderly-one w s (Kill v) h = record { answers = refl; ended = refl; ready = refl; collected = refl; dones = refl; unaccused = refl }
-orderly-one w s (Over how) h = record { answers = refl; ended = refl; ready = refl; collected = refl; dones = refl; unaccused = refl }
+orderly-one w s (Start v slot) h =
+    record { answers = refl; ended = refl; ready = refl; collected = refl; dones = refl; unaccused = refl }
+orderly-one w s (Run v ns) h =
+    record { answers = refl; ended = refl; ready = refl; collected = refl; dones = refl; unaccused = refl }
+orderly-one w s (RunAll v) h =
+    record { answers = refl; ended = refl; ready = refl; collected = refl; dones = refl; unaccused = refl }
+orderly-one w s (Steal v ns) h =
+    record { answers = refl; ended = refl; ready = refl; collected = refl; dones = refl; unaccused = refl }
+orderly-one w s (Shutdown v) h =
+    record { answers = refl; ended = refl; ready = refl; collected = refl; dones = refl; unaccused = refl }
+orderly-one w s (Kill v) h =
+    record { answers = refl; ended = refl; ready = refl; collected = refl; dones = refl; unaccused = refl }
+orderly-one w s (Over how) h =
+    record { answers = refl; ended = refl; ready = refl; collected = refl; dones = refl; unaccused = refl }
 orderly-one w s (Ready v) h = absurd (differ h)
 orderly-one w s (Collected v g) h = absurd (differ h)
 orderly-one w s (Done v n o ms b) h = absurd (differ h)
@@ -91,7 +98,8 @@ module _ (v : ℕ) (log : Option Log) (spent : ℕ) (s : State) (P : Option Entr
   by-or e h = in_both P (may_follow s e) (Some e) (Some (breach v log spent s)) (λ k. h) (λ k. down Breach (kept_at_death v log spent s))
 
   by-silent : (fine : Bool) → P (silent_or_breach fine v log spent s)
-  by-silent fine = in_both P fine None (Some (breach v log spent s)) (λ k. none) (λ k. down Breach (kept_at_death v log spent s))
+  by-silent fine =
+      in_both P fine None (Some (breach v log spent s)) (λ k. none) (λ k. down Breach (kept_at_death v log spent s))
 
   pub meaning-elim : P (Some (Ready v)) → ((g : Ids) → P (Some (Collected v g)))
       → ((n : ℕ) (o : Outcome) (ms : ℕ) (b : List ℕ) → P (Some (Done v n o ms b)))
@@ -131,7 +139,8 @@ entry_of (Some e) = e ∷ []
 -- of another worker it says nothing
 pub other-echo : (w v : ℕ) (log : Option Log) (spent : ℕ) (s : State) (x : What) → (v == w) ≡ false
     → Echo w (entry_of (meaning_of v log spent s x)) []
-other-echo w v log spent s x h = meaning-elim v log spent s (λ o. Echo w (entry_of o) []) (echo-none w) (λ c b. record { answers = refl; ended = refl; ready = refl; collected = refl; dones = refl; unaccused = down c b })
+other-echo w v log spent s x h =
+    meaning-elim v log spent s (λ o. Echo w (entry_of o) []) (echo-none w) (λ c b. record { answers = refl; ended = refl; ready = refl; collected = refl; dones = refl; unaccused = down c b })
     (record { answers = refl; ended = refl; ready = rw h refl; collected = refl; dones = refl; unaccused = refl })
     (λ g. record { answers = refl; ended = refl; ready = refl; collected = rw h refl; dones = refl; unaccused = refl })
     (λ n o ms b. record { answers = refl; ended = rw h refl; ready = refl; collected = refl; dones = rw h refl; unaccused = refl })
@@ -157,19 +166,24 @@ module _ (w : ℕ) (log : Option Log) (spent : ℕ) (s : State) where
   accused x b h = absurd (differ (sym h ∙ ap (λ (q : Bool). q || false) own))
 
   own-or : (x : What) (e : Entry) → Echo w (e ∷ []) (x ∷ []) → Says x (or_breach w log spent s e)
-  own-or x e k = in_both (Says x) (may_follow s e) (Some e) (Some (breach w log spent s)) (λ h a. k) (λ h. accused x (kept_at_death w log spent s))
+  own-or x e k =
+      in_both (Says x) (may_follow s e) (Some e) (Some (breach w log spent s)) (λ h a. k) (λ h. accused x (kept_at_death w log spent s))
 
   own-silent : (x : What) (fine : Bool) → Echo w [] (x ∷ []) → Says x (silent_or_breach fine w log spent s)
-  own-silent x fine k = in_both (Says x) fine None (Some (breach w log spent s)) (λ h a. k) (λ h. accused x (kept_at_death w log spent s))
+  own-silent x fine k =
+      in_both (Says x) fine None (Some (breach w log spent s)) (λ h a. k) (λ h. accused x (kept_at_death w log spent s))
 
   collected-echo : (ids : List (List ℕ)) (g : Ids) → Echo w (Collected w g ∷ []) (what.Collected ids ∷ [])
-  collected-echo ids g = record { answers = refl; ended = refl; ready = refl; collected = rw own refl; dones = refl; unaccused = refl }
+  collected-echo ids g =
+      record { answers = refl; ended = refl; ready = refl; collected = rw own refl; dones = refl; unaccused = refl }
 
   gone-echo : (c : Cause) (b : List ℕ) → Says (what.Gone c) (Some (Down w c b))
-  gone-echo c b h = record { answers = refl; ended = refl; ready = refl; collected = refl; dones = refl; unaccused = h }
+  gone-echo c b h =
+      record { answers = refl; ended = refl; ready = refl; collected = refl; dones = refl; unaccused = h }
 
   pub own-echo : (x : What) → Says x (meaning_of w log spent s x)
-  own-echo what.Ready = own-or what.Ready (Ready w) (record { answers = refl; ended = refl; ready = rw own refl; collected = refl; dones = refl; unaccused = refl })
+  own-echo what.Ready =
+      own-or what.Ready (Ready w) (record { answers = refl; ended = refl; ready = rw own refl; collected = refl; dones = refl; unaccused = refl })
   own-echo (what.Collected given) = go (listed w s.books)
     where
       go : (o : Option Listed) → Says (what.Collected given)
@@ -180,16 +194,23 @@ module _ (w : ℕ) (log : Option Log) (spent : ℕ) (s : State) where
           same : (q : Bool) → Says (what.Collected given) (or_breach w log spent s (if q then Collected w ids.Same else Collected w (ids.List given)))
           same true = own-or (what.Collected given) (Collected w ids.Same) (collected-echo given ids.Same)
           same false = own-or (what.Collected given) (Collected w (ids.List given)) (collected-echo given (ids.List given))
-  own-echo (what.LogStart n number) = own-silent (what.LogStart n number) (may_start_log w n number log s) (record { answers = refl; ended = refl; ready = refl; collected = refl; dones = refl; unaccused = refl })
-  own-echo (what.Piece number bytes) = own-silent (what.Piece number bytes) (is_open_log number log) (record { answers = refl; ended = refl; ready = refl; collected = refl; dones = refl; unaccused = refl })
-  own-echo (what.LogClosed number) = own-silent (what.LogClosed number) (is_open_log number log) (record { answers = refl; ended = refl; ready = refl; collected = refl; dones = refl; unaccused = refl })
+  own-echo (what.LogStart n number) =
+      own-silent (what.LogStart n number) (may_start_log w n number log s) (record { answers = refl; ended = refl; ready = refl; collected = refl; dones = refl; unaccused = refl })
+  own-echo (what.Piece number bytes) =
+      own-silent (what.Piece number bytes) (is_open_log number log) (record { answers = refl; ended = refl; ready = refl; collected = refl; dones = refl; unaccused = refl })
+  own-echo (what.LogClosed number) =
+      own-silent (what.LogClosed number) (is_open_log number log) (record { answers = refl; ended = refl; ready = refl; collected = refl; dones = refl; unaccused = refl })
   own-echo (what.Done n o ms) =
       in_both (Says (what.Done n o ms)) (names_head w n s && is_of n log && not (any_open log)) (Some (Done w n o ms (output_of w o log spent s))) (Some (breach w log spent s))
       (λ h a. record { answers = refl; ended = rw own refl; ready = refl; collected = refl; dones = rw own refl; unaccused = refl }) (λ h. accused (what.Done n o ms) (kept_at_death w log spent s))
-  own-echo (what.Back ns) = own-or (what.Back ns) (Back w ns) (record { answers = rw own refl; ended = refl; ready = refl; collected = refl; dones = refl; unaccused = refl })
-  own-echo what.Finished = own-or what.Finished (Finished w) (record { answers = refl; ended = refl; ready = refl; collected = refl; dones = refl; unaccused = refl })
+  own-echo (what.Back ns) =
+      own-or (what.Back ns) (Back w ns) (record { answers = rw own refl; ended = refl; ready = refl; collected = refl; dones = refl; unaccused = refl })
+  own-echo what.Finished =
+      own-or what.Finished (Finished w) (record { answers = refl; ended = refl; ready = refl; collected = refl; dones = refl; unaccused = refl })
   own-echo (what.Closed None) = accused (what.Closed None) (kept_at_death w log spent s)
-  own-echo (what.Closed (Some text)) = own-or (what.Closed (Some text)) (Refused w text) (record { answers = refl; ended = refl; ready = refl; collected = refl; dones = refl; unaccused = refl })
+  own-echo (what.Closed (Some text)) =
+      own-or (what.Closed (Some text)) (Refused w text) (record { answers = refl; ended = refl; ready = refl; collected = refl; dones = refl; unaccused = refl })
   own-echo what.Stray = accused what.Stray (kept_at_death w log spent s)
   own-echo (what.Gone cause) = gone-echo cause (kept_at_death w log spent s)
-  own-echo what.NotStarted = own-or what.NotStarted (NotStarted w) (record { answers = refl; ended = refl; ready = refl; collected = refl; dones = refl; unaccused = refl })
+  own-echo what.NotStarted =
+      own-or what.NotStarted (NotStarted w) (record { answers = refl; ended = refl; ready = refl; collected = refl; dones = refl; unaccused = refl })

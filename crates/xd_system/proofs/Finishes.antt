@@ -49,7 +49,8 @@ outputs-end w s (e ∷ es) h =
 
 pub other-end : (w v : ℕ) (log : Option Log) (spent : ℕ) (s : State) (x : What) → (v == w) ≡ false
     → list_any (is_end_of w) (entry_of (meaning_of v log spent s x)) ≡ false
-other-end w v log spent s x h = meaning-elim v log spent s (λ o. list_any (is_end_of w) (entry_of o) ≡ false) refl (λ c b. rw h refl) refl (λ g. refl) (λ n o ms b. refl) (λ ns. refl) (rw h refl) (λ text. rw h refl) (rw h refl) x
+other-end w v log spent s x h =
+    meaning-elim v log spent s (λ o. list_any (is_end_of w) (entry_of o) ≡ false) refl (λ c b. rw h refl) refl (λ g. refl) (λ n o ms b. refl) (λ ns. refl) (rw h refl) (λ text. rw h refl) (rw h refl) x
 
 pub end-entry : (w : ℕ) (e : Entry) → is_end_of w e ≡ true → is_death e ≡ false → is_refusal e ≡ false
     → e ≡ Finished w
@@ -89,7 +90,8 @@ module _ (w : ℕ) (log : Option Log) (spent : ℕ) (s : State) where
   says-finished (what.LogStart n number) z = absurd (silent-not (may_start_log w n number log s) z)
   says-finished (what.Piece number bytes) z = absurd (silent-not (is_open_log number log) z)
   says-finished (what.LogClosed number) z = absurd (silent-not (is_open_log number log) z)
-  says-finished (what.Done n o ms) z = absurd (in_both (λ q. Ends q → ⊥) (names_head w n s && is_of n log && not (any_open log)) (Some (Done w n o ms (output_of w o log spent s))) (Some (breach w log spent s)) (λ k q. cc) (λ k q. cc) z)
+  says-finished (what.Done n o ms) z =
+      absurd (in_both (λ q. Ends q → ⊥) (names_head w n s && is_of n log && not (any_open log)) (Some (Done w n o ms (output_of w o log spent s))) (Some (breach w log spent s)) (λ k q. cc) (λ k q. cc) z)
   says-finished (what.Back ns) z = absurd (or-not (Back w ns) (λ q. cc) z)
   says-finished what.Finished z = refl
   says-finished (what.Closed None) z = absurd cc

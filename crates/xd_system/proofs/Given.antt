@@ -236,7 +236,8 @@ takes_run w ns es s placed h d =
 
 range-plus : (a n m : ℕ) → map (λ i. a + i) (range_with_len m n) ≡ range_with_len (a + m) n
 range-plus a zero m = refl
-range-plus a (suc n) m = (let e : a + (m + 1) ≡ a + m + 1 = omega arith in ap (λ (l : List ℕ). (a + m) ∷ l) (range-plus a n (m + 1) ∙ ap (λ (k : ℕ). range_with_len k n) e))
+range-plus a (suc n) m =
+    (let e : a + (m + 1) ≡ a + m + 1 = omega arith in ap (λ (l : List ℕ). (a + m) ∷ l) (range-plus a n (m + 1) ∙ ap (λ (k : ℕ). range_with_len k n) e))
 
 all-named : (slot : ℕ) (p : Plan) → is_each p.mode ≡ true
     → items_named slot (range_with_len 0 (slice_index p.sizes slot)) p ≡ slot_items slot p

@@ -52,7 +52,8 @@ grows-early e t = go t.call.running
 
 pub grows-moved : (room : Bool) (l : List LineEntry) (t : CallTurn) → Grows t (moved_on room l t)
 grows-moved room [] t = same-asks t t refl
-grows-moved room (Mark ∷ l) t = (Tell what.Finished ∷ End None ∷ [], append_assoc t.asks (Tell what.Finished ∷ []) (End None ∷ []), refl)
+grows-moved room (Mark ∷ l) t =
+    (Tell what.Finished ∷ End None ∷ [], append_assoc t.asks (Tell what.Finished ∷ []) (End None ∷ []), refl)
 grows-moved room (Test n ∷ []) t = same-asks t t refl
 grows-moved room (Test n ∷ (p ∷ l)) t = go (room && has_log t.call.ended)
   where
@@ -90,10 +91,12 @@ grows-told room None t = grows-early BadCommand t
 grows-told room (Some (RunTests ns)) t = grows-given room ns t
 grows-told room (Some RunAll) t = grows-given room (range_with_len 0 t.call.size) t
 grows-told room (Some (Steal ns)) t = grows-stolen ns t
-grows-told room (Some Shutdown) t = grows-settled room (record t { call = record (t.call) { line = t.call.line ++ Mark ∷ [] } })
+grows-told room (Some Shutdown) t =
+    grows-settled room (record t { call = record (t.call) { line = t.call.line ++ Mark ∷ [] } })
 
 pub grows-heard : (p : Phase) (room : Bool) (o : Option Order) (t : CallTurn) → Grows t (item_heard_in p room o t)
-grows-heard Awaiting room o t = same-asks t (record t { call = record (t.call) { waiting = t.call.waiting ++ o ∷ [] } }) refl
+grows-heard Awaiting room o t =
+    same-asks t (record t { call = record (t.call) { waiting = t.call.waiting ++ o ∷ [] } }) refl
 grows-heard Serving room o t = grows-told room o t
 grows-heard (phase.Ending x) room o t = same-asks t t refl
 grows-heard phase.Stopped room o t = same-asks t t refl
@@ -101,4 +104,5 @@ grows-heard Over room o t = same-asks t t refl
 
 pub grows-all : (room : Bool) (os : List (Option Order)) (t : CallTurn) → Grows t (all_heard room os t)
 grows-all room [] t = same-asks t t refl
-grows-all room (o ∷ os) t = grows-then t (item_heard room o t) (all_heard room os (item_heard room o t)) (grows-heard t.call.phase room o t) (grows-all room os (item_heard room o t))
+grows-all room (o ∷ os) t =
+    grows-then t (item_heard room o t) (all_heard room os (item_heard room o t)) (grows-heard t.call.phase room o t) (grows-all room os (item_heard room o t))

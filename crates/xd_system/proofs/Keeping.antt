@@ -38,11 +38,13 @@ use Rattle.xd_system.proofs.Shuts.{takes_collected, takes_shutdown, takes_start}
 
 -- the worker is active, or was
 live : (w : ℕ) (t : State) (fs : List Entry) → has_member w (λ m. true) t.books ≡ true → Deal w t fs → Deals w t fs
-live w t fs m d = record { unstarted = λ h. absurd (differ (sym h ∙ m)); unasked = λ h. absurd (differ (sym h ∙ m)); active = λ h. d }
+live w t fs m d =
+    record { unstarted = λ h. absurd (differ (sym h ∙ m)); unasked = λ h. absurd (differ (sym h ∙ m)); active = λ h. d }
 
 ended : (w : ℕ) (t : State) (fs : List Entry) → has_member w (λ m. true) t.books ≡ true → is_active w t.books ≡ false
     → Deals w t fs
-ended w t fs m a = record { unstarted = λ h. absurd (differ (sym h ∙ m)); unasked = λ h. absurd (differ (sym h ∙ m)); active = λ h. absurd (differ (sym a ∙ h)) }
+ended w t fs m a =
+    record { unstarted = λ h. absurd (differ (sym h ∙ m)); unasked = λ h. absurd (differ (sym h ∙ m)); active = λ h. absurd (differ (sym a ∙ h)) }
 
 member-of : (w : ℕ) (s : State) → is_active w s.books ≡ true → has_member w (λ m. true) s.books ≡ true
 member-of w s h = has-member w (λ m. m.active) s.books.members h
@@ -253,4 +255,5 @@ keeps_deals settings w = record {
 }
 
 pub deals-none : (settings : Settings) (w : ℕ) → Deals w (no_one settings) []
-deals-none settings w = record { unstarted = λ h. record { told = refl; answers = refl; ended = refl }; unasked = λ h. refl; active = λ h. absurd (differ h) }
+deals-none settings w =
+    record { unstarted = λ h. record { told = refl; answers = refl; ended = refl }; unasked = λ h. refl; active = λ h. absurd (differ h) }

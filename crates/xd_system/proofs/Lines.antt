@@ -164,4 +164,5 @@ dealt-enough size line (RunTests ns ∷ R) backs more h = dealt-enough size (lin
 dealt-enough size line (RunAll ∷ R) backs more h = dealt-enough size (line ++ range_with_len 0 size) R backs more h
 dealt-enough size line (Shutdown ∷ R) backs more h = dealt-enough size line R backs more h
 dealt-enough size line (Steal ns ∷ R) [] more h = absurd (omega (arith, h))
-dealt-enough size line (Steal ns ∷ R) (a ∷ backs) more h = dealt-enough size (without a line) R backs more (omega (arith, h))
+dealt-enough size line (Steal ns ∷ R) (a ∷ backs) more h =
+    dealt-enough size (without a line) R backs more (omega (arith, h))

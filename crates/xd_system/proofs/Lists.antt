@@ -34,7 +34,8 @@ drop-after (suc k) n [] more h = absurd cc
 drop-after (suc k) n (x ∷ xs) more h = drop-after k n xs more h
 
 pub drop-next : {A : Type 0} (k : ℕ) (n : A) (xs more : List A) → drop k xs ≡ n ∷ more → drop (k + 1) xs ≡ more
-drop-next k n xs more h = (let e : suc k ≡ k + 1 = omega arith in subst (λ (j : ℕ). drop j xs ≡ more) e (drop-after k n xs more h))
+drop-next k n xs more h =
+    (let e : suc k ≡ k + 1 = omega arith in subst (λ (j : ℕ). drop j xs ≡ more) e (drop-after k n xs more h))
 
 take-after : (k n : ℕ) (xs more : List ℕ) → drop k xs ≡ n ∷ more → take (suc k) xs ≡ take k xs ++ n ∷ []
 take-after zero n [] more h = absurd cc
@@ -43,12 +44,14 @@ take-after (suc k) n [] more h = absurd cc
 take-after (suc k) n (x ∷ xs) more h = ap (λ (l : List ℕ). x ∷ l) (take-after k n xs more h)
 
 pub take-next : (k n : ℕ) (xs more : List ℕ) → drop k xs ≡ n ∷ more → take (k + 1) xs ≡ take k xs ++ n ∷ []
-take-next k n xs more h = (let e : suc k ≡ k + 1 = omega arith in subst (λ (j : ℕ). take j xs ≡ take k xs ++ n ∷ []) e (take-after k n xs more h))
+take-next k n xs more h =
+    (let e : suc k ≡ k + 1 = omega arith in subst (λ (j : ℕ). take j xs ≡ take k xs ++ n ∷ []) e (take-after k n xs more h))
 
 pub all-append : (test : ℕ → Bool) (xs ys : List ℕ) → list_all test xs ≡ true → list_all test ys ≡ true
     → list_all test (xs ++ ys) ≡ true
 all-append test [] ys h k = k
-all-append test (x ∷ xs) ys h k = (let p = split-and (test x) (list_all test xs) h in rw (p.0, all-append test xs ys p.1 k) refl)
+all-append test (x ∷ xs) ys h k =
+    (let p = split-and (test x) (list_all test xs) h in rw (p.0, all-append test xs ys p.1 k) refl)
 
 pub few-dropped : {A : Type 0} (n : ℕ) (xs : List A) → drop n xs ≡ [] → length xs ≤ n
 few-dropped zero [] h = omega arith
@@ -64,7 +67,8 @@ all-taken-low : (n k : ℕ) (xs : List ℕ) → list_all (λ y. nat_lt y n) xs �
     → list_all (λ y. nat_lt y n) (take k xs) ≡ true
 all-taken-low n zero xs h = refl
 all-taken-low n (suc k) [] h = refl
-all-taken-low n (suc k) (x ∷ xs) h = (let p = split-and (nat_lt x n) (list_all (λ y. nat_lt y n) xs) h in rw (p.0, all-taken-low n k xs p.1) refl)
+all-taken-low n (suc k) (x ∷ xs) h =
+    (let p = split-and (nat_lt x n) (list_all (λ y. nat_lt y n) xs) h in rw (p.0, all-taken-low n k xs p.1) refl)
 
 length-taken : (k y : ℕ) (xs rest : List ℕ) → drop k xs ≡ y ∷ rest → length (take k xs) ≡ k
 length-taken zero y xs rest h = refl
@@ -110,7 +114,8 @@ among-longer x (z ∷ xs) ys h = grind (arith, nat_tests, among-longer x xs ys)
 
 pub all-last : (xs ys zs : List ℕ) → all_among xs ys ≡ true → all_among xs (ys ++ zs) ≡ true
 all-last [] ys zs h = refl
-all-last (x ∷ xs) ys zs h = (let p = split-and (among x ys) (all_among xs ys) h in and (among-longer x ys zs p.0) (all-last xs ys zs p.1))
+all-last (x ∷ xs) ys zs h =
+    (let p = split-and (among x ys) (all_among xs ys) h in and (among-longer x ys zs p.0) (all-last xs ys zs p.1))
 
 pub itself-last : (x : ℕ) (ys : List ℕ) → all_among (x ∷ []) (ys ++ x ∷ []) ≡ true
 itself-last x [] = grind (arith, nat_tests)

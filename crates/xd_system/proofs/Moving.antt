@@ -80,7 +80,8 @@ the-member w p (m ∷ ms) d h =
     later : (m.worker == w) ≡ false → (b : Bool) → p m ≡ b → list_any (λ x. x.worker == w) (filter p ms) ≡ true
     later e true k = sym (ap (λ (b : Bool). b || list_any (λ x. x.worker == w) (filter p ms)) e)
         ∙ sym (ap (λ (b : Bool). list_any (λ x. x.worker == w) (if b then m ∷ filter p ms else filter p ms)) k) ∙ h
-    later e false k = sym (ap (λ (b : Bool). list_any (λ x. x.worker == w) (if b then m ∷ filter p ms else filter p ms)) k)
+    later e false k =
+        sym (ap (λ (b : Bool). list_any (λ x. x.worker == w) (if b then m ∷ filter p ms else filter p ms)) k)
         ∙ h
 
     here : (m.worker == w) ≡ true → not (among m.worker (numbers ms)) ≡ true → ((p m ≡ true) ⊎ (p m ≡ false))
@@ -114,11 +115,14 @@ marked-left [] (inl e) = cc
 marked-left [] (inr e) = (let k : Mark ∷ [] ≡ Test e.0 ∷ [] = e.1 in cc)
 marked-left (n ∷ ns) (inl e) = cc
 marked-left (n ∷ []) (inr e) = (let k : Test n ∷ (Mark ∷ []) ≡ Test e.0 ∷ [] = e.1 in cc)
-marked-left (n ∷ (m ∷ ns)) (inr e) = (let k : Test n ∷ (Test m ∷ (map Test ns ++ Mark ∷ [])) ≡ Test e.0 ∷ [] = e.1 in cc)
+marked-left (n ∷ (m ∷ ns)) (inr e) =
+    (let k : Test n ∷ (Test m ∷ (map Test ns ++ Mark ∷ [])) ≡ Test e.0 ∷ [] = e.1 in cc)
 
 few-left : (ps : List LineEntry) → IsIdle ps → length (tests_in_line ps) ≤ 1
-few-left ps (inl e) = (let k : length (tests_in_line ps) ≡ 0 = ap (λ (l : List LineEntry). length (tests_in_line l)) e in omega (arith, k))
-few-left ps (inr e) = (let k : length (tests_in_line ps) ≡ 1 = ap (λ (l : List LineEntry). length (tests_in_line l)) e.1 in omega (arith, k))
+few-left ps (inl e) =
+    (let k : length (tests_in_line ps) ≡ 0 = ap (λ (l : List LineEntry). length (tests_in_line l)) e in omega (arith, k))
+few-left ps (inr e) =
+    (let k : length (tests_in_line ps) ≡ 1 = ap (λ (l : List LineEntry). length (tests_in_line l)) e.1 in omega (arith, k))
 
 all-dropped : (n : ℕ) (xs : List (List ℕ)) → length xs ≤ n → drop n xs ≡ []
 all-dropped zero [] h = refl
@@ -223,7 +227,8 @@ module _ (settings : Settings) (taken : List News) (w : ℕ) (l : LinkNow) (prop
           go : (o : Option UnansweredSteal) → asked_of w o ≡ []
               → elim o as (λ _. Bool) [ None ↦ false | Some a ↦ a.worker == w ] ≡ true → ⊥
           go None e z = differ z
-          go (Some a) e z = (let one : a.tests ∷ [] ≡ [] = sym (ap (λ (b : Bool). if b then a.tests ∷ [] else []) z) ∙ e in cc)
+          go (Some a) e z =
+              (let one : a.tests ∷ [] ≡ [] = sym (ap (λ (b : Bool). if b then a.tests ∷ [] else []) z) ∙ e in cc)
 
       nobody-owes : ⊥
       nobody-owes =
@@ -253,13 +258,14 @@ module _ (settings : Settings) (taken : List News) (w : ℕ) (l : LinkNow) (prop
         absurd (differ (sym unfinished ∙ ap (list_any is_last_told) told ∙ k.said))
 
     moves-called : IsMoving settings taken w l
-    moves-called = (let deal = deal-now settings taken w l proper h active in elim (cases_of (in_rota w r.state.books.table)) [
-      | inr a ↦ quiet (deal.early a)
-      | inl a ↦ (elim (cases_of r.state.books.shared) [
-        | inr b ↦ quiet (deal.unshared b)
-        | inl b ↦ moves (size_at w r.state) (joined-call settings taken w l proper h active [] none a b).call
-      ])
-    ])
+    moves-called =
+        (let deal = deal-now settings taken w l proper h active in elim (cases_of (in_rota w r.state.books.table)) [
+          | inr a ↦ quiet (deal.early a)
+          | inl a ↦ (elim (cases_of r.state.books.shared) [
+            | inr b ↦ quiet (deal.unshared b)
+            | inl b ↦ moves (size_at w r.state) (joined-call settings taken w l proper h active [] none a b).call
+          ])
+        ])
       where
         quiet : is_quiet (told_to w r.entries) ≡ true → IsMoving settings taken w l
         quiet q = (let k = quiet-call settings taken w l proper h active [] none q in moves k.0 k.1.call)
@@ -273,13 +279,15 @@ module _ (settings : Settings) (taken : List News) (w : ℕ) (l : LinkNow) (prop
       by-orders : tells l.given ≡ said_by w taken ++ [] → (G : List Order) → h.orders.0 ≡ G
           → IsMoving settings taken w l
       by-orders none [] e = moves-called none e
-      by-orders none (o ∷ os) e = OrderOnWay (λ k. (let z : o ∷ os ≡ [] = sym e ∙ sym (orders-left settings taken w l proper h active) ∙ k in absurd cc))
+      by-orders none (o ∷ os) e =
+          OrderOnWay (λ k. (let z : o ∷ os ≡ [] = sym e ∙ sym (orders-left settings taken w l proper h active) ∙ k in absurd cc))
 
       by-news : tells l.given ≡ said_by w taken ++ (told-split settings taken w l proper h active whole).0
           → (L : List What) → (told-split settings taken w l proper h active whole).0 ≡ L
           → IsMoving settings taken w l
       by-news t [] e = by-orders (t ∙ ap (λ (z : List What). said_by w taken ++ z) e) h.orders.0 refl
-      by-news t (x ∷ xs) e = NewsOnWay (λ k. filled x xs (news_on_way taken w l) (news-left settings taken w l proper h active (told-split settings taken w l proper h active whole) ∙ e) k)
+      by-news t (x ∷ xs) e =
+          NewsOnWay (λ k. filled x xs (news_on_way taken w l) (news-left settings taken w l proper h active (told-split settings taken w l proper h active whole) ∙ e) k)
 
       go : (c : Bool) → l.called ≡ c → IsMoving settings taken w l
       go false e = CallOnWay e

@@ -85,7 +85,8 @@ named-without slot ns (x ∷ L) p = ap (without (items_named slot ns p)) (named-
 
 pub among-named : (slot x : ℕ) (L rest : List ℕ) (p : Plan) → among x L ≡ true
     → all_among (items_named slot L p) rest ≡ true → among (item_at slot x p) rest ≡ true
-among-named slot x L rest p h k = among_of-all_among (item_at slot x p) (items_named slot L p) rest k (same-items slot x L p ∙ h)
+among-named slot x L rest p h k =
+    among_of-all_among (item_at slot x p) (items_named slot L p) rest k (same-items slot x L p ∙ h)
 
 pub named-distinct : (slot : ℕ) (ns : List ℕ) (p : Plan) → all_distinct (items_named slot ns p) ≡ true
     → all_distinct ns ≡ true
@@ -96,8 +97,10 @@ named-distinct slot (n ∷ ns) p h =
 
 pub named-injective : (slot : ℕ) (ms ns : List ℕ) (p : Plan) → items_named slot ms p ≡ items_named slot ns p → ms ≡ ns
 named-injective slot [] [] p h = refl
-named-injective slot [] (n ∷ ns) p h = absurd (let e : [] ≡ item_at slot n p ∷ items_named slot ns p = sym (named-none slot p) ∙ h ∙ named-first slot n ns p in cc)
-named-injective slot (m ∷ ms) [] p h = absurd (let e : item_at slot m p ∷ items_named slot ms p ≡ [] = sym (named-first slot m ms p) ∙ h ∙ named-none slot p in cc)
+named-injective slot [] (n ∷ ns) p h =
+    absurd (let e : [] ≡ item_at slot n p ∷ items_named slot ns p = sym (named-none slot p) ∙ h ∙ named-first slot n ns p in cc)
+named-injective slot (m ∷ ms) [] p h =
+    absurd (let e : item_at slot m p ∷ items_named slot ms p ≡ [] = sym (named-first slot m ms p) ∙ h ∙ named-none slot p in cc)
 named-injective slot (m ∷ ms) (n ∷ ns) p h =
     let e : item_at slot m p ∷ items_named slot ms p ≡ item_at slot n p ∷ items_named slot ns p = sym (named-first slot m ms p)
     ∙ h ∙ named-first slot n ns p in

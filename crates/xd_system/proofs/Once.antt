@@ -65,7 +65,8 @@ module _ (settings : Settings) (taken : List News) (w : ℕ) (l : LinkNow) (prop
     (member : has_member w (λ m. true) (run_of settings taken).state.books ≡ true) (inactive : is_active w (run_of settings taken).state.books ≡ false)
     (alive : list_any is_death (run_of settings taken).entries ≡ false) (willing : list_any is_refusal (run_of settings taken).entries ≡ false) where
   acts-at : (pre : List News) → Acts w (run_of settings pre).state (run_of settings pre).entries
-  acts-at pre = at-run settings (run_of settings pre) (Acts w) (keeps_acts settings w) (sound-run settings pre proper) (acts-none settings w)
+  acts-at pre =
+      at-run settings (run_of settings pre) (Acts w) (keeps_acts settings w) (sound-run settings pre proper) (acts-none settings w)
 
   -- all entries, by those so far
   entries-by : (pre : List News) (n : News) (post : List News) → taken ≡ pre ++ n ∷ post
@@ -142,7 +143,8 @@ module _ (settings : Settings) (taken : List News) (w : ℕ) (l : LinkNow) (prop
 
       go : (o : Option Entry) → input_of (run_of settings pre) n ≡ o
           → (((n.worker == w) ≡ true) ⊎ ((n.worker == w) ≡ false)) → Split settings taken w
-      go None q own = absurd (differ (ap (λ (o : Option Entry). list_any (is_end_of w) (added (run_of settings pre) o)) (sym q) ∙ some-added))
+      go None q own =
+          absurd (differ (ap (λ (o : Option Entry). list_any (is_end_of w) (added (run_of settings pre) o)) (sym q) ∙ some-added))
       go (Some e) q (inr other) = absurd (not-other e q (ends e q) other)
       go (Some e) q (inl own) =
           let by = entries-by pre n post split in
@@ -307,7 +309,8 @@ module _ (settings : Settings) (taken : List News) (w : ℕ) (l : LinkNow) (prop
     is-told = ap (list_any is_last_told) tells-are ∙ any-last said told-so.0 what.Finished refl
 
     done : (size : ℕ) → CallIs size l.given → IsDone size l.given
-    done size (inl q) = absurd (differ (sym (ap (λ (z : List Ask). list_any is_last_told (what.Ready ∷ news_of_asks z)) q.none) ∙ is-told))
+    done size (inl q) =
+        absurd (differ (sym (ap (λ (z : List Ask). list_any is_last_told (what.Ready ∷ news_of_asks z)) q.none) ∙ is-told))
     done size (inr (inl q)) = absurd (differ (sym q.is.unfinished ∙ is-told))
     done size (inr (inr q)) = q
 

@@ -51,7 +51,8 @@ deals-stay w s t es fs a k d = record {
 -- the same slot, mode and sizes name the same items
 
 abbrev named_by : ModeKind → List ℕ → ℕ → List ℕ → List ℕ
-named_by mode sizes slot ns = if is_each mode then map (λ i. (if is_each mode then sum (take slot sizes) else 0) + i) ns else ns
+named_by mode sizes slot ns =
+    if is_each mode then map (λ i. (if is_each mode then sum (take slot sizes) else 0) + i) ns else ns
 
 pub names-same : (w : ℕ) (s t : State) (ns : List ℕ) → slot_of w t.books ≡ slot_of w s.books
     → t.plan.mode ≡ s.plan.mode → t.plan.sizes ≡ s.plan.sizes
@@ -125,7 +126,8 @@ done-stays w v n o ms b s h =
   where
     holds : (is : List ℕ) → held w (completed_first v is s.books.table) ≡ held w s.books.table
     holds [] = refl
-    holds (i ∷ is) = held-other w v (λ x. record x { held = without (i ∷ []) x.held }) s.books.table.rota (λ x. refl) h
+    holds (i ∷ is) =
+        held-other w v (λ x. record x { held = without (i ∷ []) x.held }) s.books.table.rota (λ x. refl) h
 
     rota : (is : List ℕ) → in_rota w (completed_first v is s.books.table) ≡ in_rota w s.books.table
     rota [] = refl

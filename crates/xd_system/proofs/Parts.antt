@@ -26,7 +26,8 @@ tells-part (g ∷ later) gs =
 
 pub orders-part : (later gs : List Given) → IsFirstPart (orders_of gs) (orders_of (later ++ gs))
 orders-part [] gs = ([], sym (append-nil (orders_of gs)))
-orders-part (g ∷ later) gs = (let k = orders-part later gs in (k.0 ++ order_in g.input, ap (λ (l : List Order). l ++ order_in g.input) k.1 ∙ append_assoc (orders_of gs) k.0 (order_in g.input)))
+orders-part (g ∷ later) gs =
+    (let k = orders-part later gs in (k.0 ++ order_in g.input, ap (λ (l : List Order). l ++ order_in g.input) k.1 ∙ append_assoc (orders_of gs) k.0 (order_in g.input)))
 
 pub run-part : (later gs : List Given) → list_all is_of_run (later ++ gs) ≡ true → list_all is_of_run gs ≡ true
 run-part [] gs h = h

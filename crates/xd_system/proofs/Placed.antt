@@ -70,7 +70,8 @@ quiet-second (x ∷ xs) ys h = quiet-second xs ys (split-and (is_shutdown x) (is
 
 quiet-first : (xs ys : List Order) → is_quiet (xs ++ ys) ≡ true → is_quiet xs ≡ true
 quiet-first [] ys h = refl
-quiet-first (x ∷ xs) ys h = (let p = split-and (is_shutdown x) (is_quiet (xs ++ ys)) h in and p.0 (quiet-first xs ys p.1))
+quiet-first (x ∷ xs) ys h =
+    (let p = split-and (is_shutdown x) (is_quiet (xs ++ ys)) h in and p.0 (quiet-first xs ys p.1))
 
 quiet-given : (size : ℕ) (os : List Order) → is_quiet os ≡ true → all_given size os ≡ []
 quiet-given size [] h = refl
@@ -83,18 +84,30 @@ quiet-given size (Steal ns ∷ os) h = absurd (differ h)
 first-back : (news : List What) (b : List ℕ) (rest : List (List ℕ)) → answers_in news ≡ b ∷ rest
     → (before after : List What) × (news ≡ before ++ what.Back b ∷ after) × (answers_in before ≡ [])
 first-back [] b rest h = absurd cc
-first-back (what.Back c ∷ news) b rest h = (let e : c ≡ b = cc in ([], news, ap (λ (z : List ℕ). what.Back z ∷ news) e, refl))
-first-back (what.Ready ∷ news) b rest h = (let k = first-back news b rest h in (what.Ready ∷ k.0, k.1, ap (λ (l : List What). what.Ready ∷ l) k.2, k.3))
-first-back (what.Collected i ∷ news) b rest h = (let k = first-back news b rest h in (what.Collected i ∷ k.0, k.1, ap (λ (l : List What). what.Collected i ∷ l) k.2, k.3))
-first-back (what.LogStart i j ∷ news) b rest h = (let k = first-back news b rest h in (what.LogStart i j ∷ k.0, k.1, ap (λ (l : List What). what.LogStart i j ∷ l) k.2, k.3))
-first-back (what.Piece i j ∷ news) b rest h = (let k = first-back news b rest h in (what.Piece i j ∷ k.0, k.1, ap (λ (l : List What). what.Piece i j ∷ l) k.2, k.3))
-first-back (what.LogClosed i ∷ news) b rest h = (let k = first-back news b rest h in (what.LogClosed i ∷ k.0, k.1, ap (λ (l : List What). what.LogClosed i ∷ l) k.2, k.3))
-first-back (what.Done i o j ∷ news) b rest h = (let k = first-back news b rest h in (what.Done i o j ∷ k.0, k.1, ap (λ (l : List What). what.Done i o j ∷ l) k.2, k.3))
-first-back (what.Finished ∷ news) b rest h = (let k = first-back news b rest h in (what.Finished ∷ k.0, k.1, ap (λ (l : List What). what.Finished ∷ l) k.2, k.3))
-first-back (what.Closed i ∷ news) b rest h = (let k = first-back news b rest h in (what.Closed i ∷ k.0, k.1, ap (λ (l : List What). what.Closed i ∷ l) k.2, k.3))
-first-back (what.Stray ∷ news) b rest h = (let k = first-back news b rest h in (what.Stray ∷ k.0, k.1, ap (λ (l : List What). what.Stray ∷ l) k.2, k.3))
-first-back (what.Gone i ∷ news) b rest h = (let k = first-back news b rest h in (what.Gone i ∷ k.0, k.1, ap (λ (l : List What). what.Gone i ∷ l) k.2, k.3))
-first-back (what.NotStarted ∷ news) b rest h = (let k = first-back news b rest h in (what.NotStarted ∷ k.0, k.1, ap (λ (l : List What). what.NotStarted ∷ l) k.2, k.3))
+first-back (what.Back c ∷ news) b rest h =
+    (let e : c ≡ b = cc in ([], news, ap (λ (z : List ℕ). what.Back z ∷ news) e, refl))
+first-back (what.Ready ∷ news) b rest h =
+    (let k = first-back news b rest h in (what.Ready ∷ k.0, k.1, ap (λ (l : List What). what.Ready ∷ l) k.2, k.3))
+first-back (what.Collected i ∷ news) b rest h =
+    (let k = first-back news b rest h in (what.Collected i ∷ k.0, k.1, ap (λ (l : List What). what.Collected i ∷ l) k.2, k.3))
+first-back (what.LogStart i j ∷ news) b rest h =
+    (let k = first-back news b rest h in (what.LogStart i j ∷ k.0, k.1, ap (λ (l : List What). what.LogStart i j ∷ l) k.2, k.3))
+first-back (what.Piece i j ∷ news) b rest h =
+    (let k = first-back news b rest h in (what.Piece i j ∷ k.0, k.1, ap (λ (l : List What). what.Piece i j ∷ l) k.2, k.3))
+first-back (what.LogClosed i ∷ news) b rest h =
+    (let k = first-back news b rest h in (what.LogClosed i ∷ k.0, k.1, ap (λ (l : List What). what.LogClosed i ∷ l) k.2, k.3))
+first-back (what.Done i o j ∷ news) b rest h =
+    (let k = first-back news b rest h in (what.Done i o j ∷ k.0, k.1, ap (λ (l : List What). what.Done i o j ∷ l) k.2, k.3))
+first-back (what.Finished ∷ news) b rest h =
+    (let k = first-back news b rest h in (what.Finished ∷ k.0, k.1, ap (λ (l : List What). what.Finished ∷ l) k.2, k.3))
+first-back (what.Closed i ∷ news) b rest h =
+    (let k = first-back news b rest h in (what.Closed i ∷ k.0, k.1, ap (λ (l : List What). what.Closed i ∷ l) k.2, k.3))
+first-back (what.Stray ∷ news) b rest h =
+    (let k = first-back news b rest h in (what.Stray ∷ k.0, k.1, ap (λ (l : List What). what.Stray ∷ l) k.2, k.3))
+first-back (what.Gone i ∷ news) b rest h =
+    (let k = first-back news b rest h in (what.Gone i ∷ k.0, k.1, ap (λ (l : List What). what.Gone i ∷ l) k.2, k.3))
+first-back (what.NotStarted ∷ news) b rest h =
+    (let k = first-back news b rest h in (what.NotStarted ∷ k.0, k.1, ap (λ (l : List What). what.NotStarted ∷ l) k.2, k.3))
 
 -- what the call of a worker has of its line
 pub record LineOf (size : ℕ) (orders : List Order) (news : List What) (c : FunctionCall) : Type 0 where
@@ -259,7 +272,8 @@ module _ (settings : Settings) (taken : List News) (w : ℕ) (l : LinkNow) (prop
 
         shorter : (xs : List (List ℕ)) (x : List ℕ) (ys : List (List ℕ)) → xs ≡ x ∷ ys → length xs ≤ 1 → xs ≡ x ∷ []
         shorter xs x [] q k = q
-        shorter xs x (y ∷ ys) q k = (let n : length xs ≡ suc (suc (length ys)) = ap length q in absurd (omega (arith, n, k)))
+        shorter xs x (y ∷ ys) q k =
+            (let n : length xs ≡ suc (suc (length ys)) = ap length q in absurd (omega (arith, n, k)))
 
         unanswered : drop (length (answers_by w r.entries)) (steals_asked A) ≡ asked.asked ∷ []
         unanswered = shorter (drop (length (answers_by w r.entries)) (steals_asked A)) asked.asked asked.later (ap (λ (z : List (List ℕ)). drop (length z) (steals_asked A)) (sym before) ∙ asked.next)
@@ -356,7 +370,8 @@ module _ (settings : Settings) (taken : List News) (w : ℕ) (l : LinkNow) (prop
 
         still : (size : ℕ) → CallIs size l.given → is_quiet (orders_of l.given) ≡ true
             → (ends_in (tells l.given) ≡ []) × (tests_in_line (left (call_after l.given)) ≡ [])
-        still size (inl k) b = (ap ends_in (awaits-nothing k), ap (λ (c : FunctionCall). tests_in_line (left c)) k.call_is)
+        still size (inl k) b =
+            (ap ends_in (awaits-nothing k), ap (λ (c : FunctionCall). tests_in_line (left c)) k.call_is)
         still size (inr (inl k)) b =
             let f = line-serving size (orders_of l.given) (tells l.given) (call_after l.given) k.is in
             let row = quiet-line size (orders_of l.given) (answers_in (tells l.given)) b in (
@@ -397,7 +412,8 @@ module _ (settings : Settings) (taken : List News) (w : ℕ) (l : LinkNow) (prop
       go (suc n) = named-none slot r.state.plan
 
   abbrev place_items : List What → List Order → List ℕ
-  place_items news orders = items_named slot (ends_in news ++ (tests_in_line (left (call_after l.given)) ++ all_given (call_after l.given).size orders)) r.state.plan
+  place_items news orders =
+      items_named slot (ends_in news ++ (tests_in_line (left (call_after l.given)) ++ all_given (call_after l.given).size orders)) r.state.plan
 
   abbrev back_items : List What → List ℕ
   back_items news = items_named slot (flat_map (λ ns. ns) (answers_in news)) r.state.plan

@@ -139,7 +139,8 @@ module _ (settings : Settings) (w : ℕ) (s : State) (es : List Entry) (k : Repo
           mapped : (ds : List (ℕ × Outcome))
               → results w s (ds ++ (n, o) ∷ []) ≡ results w s ds ++ Result w (base (slot_of w s.books) s.plan + n) o ∷ []
           mapped [] = refl
-          mapped (x ∷ ds) = ap (λ (l : List Report). Result w (base (slot_of w s.books) s.plan + x.0) x.1 ∷ l) (mapped ds)
+          mapped (x ∷ ds) =
+              ap (λ (l : List Report). Result w (base (slot_of w s.books) s.plan + x.0) x.1 ∷ l) (mapped ds)
 
           held-head : (hs : List ℕ) (x : ℕ) → (elim hs as (λ _. Bool) [ [] ↦ false | t ∷ ts ↦ x == t ]) ≡ true
               → among x hs ≡ true
@@ -165,14 +166,20 @@ module _ (settings : Settings) (w : ℕ) (s : State) (es : List Entry) (k : Repo
 
   said : (e : Entry) → Tidy s → may_follow s e ≡ true → s ≡ reached (after_entries (no_one settings) es) e
       → Reported settings w (after_effect s e) (es ++ e ∷ [])
-  said (Ready v) t m at = keep (Ready v) (after_effect s (Ready v)) at refl (λ d. refl) (λ ds q. same-slot _ _ (slot-marked w (made_ready v) s.books.members (λ m. refl) (λ m. refl)) ds) (λ q. q) (was-member (made_ready v) (λ m. refl))
+  said (Ready v) t m at =
+      keep (Ready v) (after_effect s (Ready v)) at refl (λ d. refl) (λ ds q. same-slot _ _ (slot-marked w (made_ready v) s.books.members (λ m. refl) (λ m. refl)) ds) (λ q. q) (was-member (made_ready v) (λ m. refl))
   said (Collected v g) t m at = said-collected v g at
   said (Done v n o ms b) t m at = said-done v n o ms b t.placed at m
-  said (Back v ns) t m at = keep (Back v ns) (after_effect s (Back v ns)) at refl (λ d. refl) (λ ds q. refl) (λ q. q) (λ q. q)
-  said (Finished v) t m at = keep (Finished v) (after_effect s (Finished v)) at refl (λ d. refl) (λ ds q. same-slot _ _ (gone-slot v) ds) (λ q. q) (was-member (made_gone v) (λ m. refl))
-  said (Refused v text) t m at = keep (Refused v text) (after_effect s (Refused v text)) at refl (λ d. refl) (λ ds q. same-slot _ _ (gone-slot v) ds) (λ q. q) (was-member (made_gone v) (λ m. refl))
-  said (Down v c b) t m at = keep (Down v c b) (after_effect s (Down v c b)) at refl (λ d. absurd (differ (sym d))) (λ ds q. same-slot _ _ (gone-slot v) ds) (λ q. q) (was-member (made_gone v) (λ m. refl))
-  said (NotStarted v) t m at = keep (NotStarted v) (after_effect s (NotStarted v)) at refl (λ d. absurd (differ (sym d))) (λ ds q. same-slot _ _ (gone-slot v) ds) (λ q. q) (was-member (made_gone v) (λ m. refl))
+  said (Back v ns) t m at =
+      keep (Back v ns) (after_effect s (Back v ns)) at refl (λ d. refl) (λ ds q. refl) (λ q. q) (λ q. q)
+  said (Finished v) t m at =
+      keep (Finished v) (after_effect s (Finished v)) at refl (λ d. refl) (λ ds q. same-slot _ _ (gone-slot v) ds) (λ q. q) (was-member (made_gone v) (λ m. refl))
+  said (Refused v text) t m at =
+      keep (Refused v text) (after_effect s (Refused v text)) at refl (λ d. refl) (λ ds q. same-slot _ _ (gone-slot v) ds) (λ q. q) (was-member (made_gone v) (λ m. refl))
+  said (Down v c b) t m at =
+      keep (Down v c b) (after_effect s (Down v c b)) at refl (λ d. absurd (differ (sym d))) (λ ds q. same-slot _ _ (gone-slot v) ds) (λ q. q) (was-member (made_gone v) (λ m. refl))
+  said (NotStarted v) t m at =
+      keep (NotStarted v) (after_effect s (NotStarted v)) at refl (λ d. absurd (differ (sym d))) (λ ds q. same-slot _ _ (gone-slot v) ds) (λ q. q) (was-member (made_gone v) (λ m. refl))
   said (Start v slot) t m at = absurd (differ m)
   said (Run v ns) t m at = absurd (differ m)
   said (RunAll v) t m at = absurd (differ m)
@@ -196,10 +203,14 @@ module _ (settings : Settings) (w : ℕ) (s : State) (es : List Entry) (k : Repo
   told : (e : Entry) → is_orderly s e ≡ true → s ≡ reached (after_entries (no_one settings) es) e
       → Reported settings w (after_effect s e) (es ++ e ∷ [])
   told (Start v slot) m at = told-start v slot at
-  told (Run v ns) m at = keep (Run v ns) (after_effect s (Run v ns)) at refl (λ d. refl) (λ ds q. refl) (λ q. q) (λ q. q)
-  told (RunAll v) m at = keep (RunAll v) (after_effect s (RunAll v)) at refl (λ d. refl) (λ ds q. refl) (λ q. q) (λ q. q)
-  told (Steal v ns) m at = keep (Steal v ns) (after_effect s (Steal v ns)) at refl (λ d. refl) (λ ds q. refl) (λ q. q) (λ q. q)
-  told (Shutdown v) m at = keep (Shutdown v) (after_effect s (Shutdown v)) at refl (λ d. refl) (λ ds q. same-slot _ _ (slot-marked w (made_shut v) s.books.members (λ m. refl) (λ m. refl)) ds) (λ q. q) (was-member (made_shut v) (λ m. refl))
+  told (Run v ns) m at =
+      keep (Run v ns) (after_effect s (Run v ns)) at refl (λ d. refl) (λ ds q. refl) (λ q. q) (λ q. q)
+  told (RunAll v) m at =
+      keep (RunAll v) (after_effect s (RunAll v)) at refl (λ d. refl) (λ ds q. refl) (λ q. q) (λ q. q)
+  told (Steal v ns) m at =
+      keep (Steal v ns) (after_effect s (Steal v ns)) at refl (λ d. refl) (λ ds q. refl) (λ q. q) (λ q. q)
+  told (Shutdown v) m at =
+      keep (Shutdown v) (after_effect s (Shutdown v)) at refl (λ d. refl) (λ ds q. same-slot _ _ (slot-marked w (made_shut v) s.books.members (λ m. refl) (λ m. refl)) ds) (λ q. q) (was-member (made_shut v) (λ m. refl))
   told (Kill v) m at = keep (Kill v) s at refl (λ d. refl) (λ ds q. refl) (λ q. q) (λ q. q)
   told (Over how) m at = keep (Over how) s at refl (λ d. refl) (λ ds q. refl) (λ q. q) (λ q. q)
   told (Ready v) m at = absurd (differ m)

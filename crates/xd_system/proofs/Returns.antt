@@ -36,7 +36,8 @@ use Rattle.xd_system.proofs.Named.{item_at, named-none, same-items, named-withou
 pub distinct-fair : (size : ℕ) (line : List ℕ) (R : List Order) (backs : List (List ℕ)) → all_distinct line ≡ true
     → are_fair size line R backs ≡ true → all_distinct (line_given size line R backs) ≡ true
 distinct-fair size line [] backs h f = h
-distinct-fair size line (RunTests ns ∷ R) backs h f = (let p = split-and (are_new size line ns) (are_fair size (line ++ ns) R backs) f in distinct-fair size (line ++ ns) R backs (distinct-more line ns size h p.0) p.1)
+distinct-fair size line (RunTests ns ∷ R) backs h f =
+    (let p = split-and (are_new size line ns) (are_fair size (line ++ ns) R backs) f in distinct-fair size (line ++ ns) R backs (distinct-more line ns size h p.0) p.1)
 distinct-fair size line (RunAll ∷ R) backs h f =
     let ns = range_with_len 0 size in
     let p = split-and (are_new size line ns) (are_fair size (line ++ ns) R backs) f in

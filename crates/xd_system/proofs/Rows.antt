@@ -80,7 +80,8 @@ all-taken = refl
 
 -- where the steal comes while 5 runs, 8 and 9 are queued and given back: then they are in the answer alone
 abbrev early_steal : List Given
-early_steal = given (input.Command (Some (Steal (8 ∷ 9 ∷ [])))) ∷ given (input.Command (Some (RunTests (5 ∷ 6 ∷ 7 ∷ 8 ∷ 9 ∷ [])))) ∷ given (input.Suite ten) ∷ []
+early_steal =
+    given (input.Command (Some (Steal (8 ∷ 9 ∷ [])))) ∷ given (input.Command (Some (RunTests (5 ∷ 6 ∷ 7 ∷ 8 ∷ 9 ∷ [])))) ∷ given (input.Suite ten) ∷ []
 
 gives-back : news_on_way taken 1 (link_with early_steal) ≡ what.LogStart 5 2 ∷ what.Back (8 ∷ 9 ∷ []) ∷ []
 gives-back = refl
@@ -151,7 +152,8 @@ honest-dead = record {
 -- ---- mode each: gw0 has two tests, gw1 has three, and runs its second
 
 abbrev each_of_two : Settings
-each_of_two = record { mode = Each; workers = 2; maxfail = 0; restarts = 8; chunk = None; reorder = true; retries = 0 }
+each_of_two =
+    record { mode = Each; workers = 2; maxfail = 0; restarts = 8; chunk = None; reorder = true; retries = 0 }
 
 each-proper : IsProper each_of_two []
 each-proper = record { mode = refl; some_worker = refl; few_workers = refl; few_restarts = refl; follow = refl }

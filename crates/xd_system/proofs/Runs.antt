@@ -163,7 +163,8 @@ module _ (settings : Settings) (r : SoFar) (n : News) (sound : IsProperRun setti
 
     was-active : has_member w (λ m. true) r.state.books ≡ true → is_active w r2.state.books ≡ true
         → is_active w r.state.books ≡ true
-    was-active m a = elim (cases_of (is_active w r.state.books)) [ inl k ↦ k | inr k ↦ absurd (differ (sym (inactive-then m k) ∙ a)) ]
+    was-active m a =
+        elim (cases_of (is_active w r.state.books)) [ inl k ↦ k | inr k ↦ absurd (differ (sym (inactive-then m k) ∙ a)) ]
 
     silent-said : has_member w (λ m. true) r.state.books ≡ false → said_by w r2.taken ≡ []
     silent-said m = taken-more ∙ ap (λ (l : List What). l ++ said_by w (n ∷ [])) (sofar.begun m)
@@ -184,12 +185,13 @@ module _ (settings : Settings) (r : SoFar) (n : News) (sound : IsProperRun setti
         subst (Echo w r2.entries) (sym (silent-said m)) (subst (λ (es : List Entry). Echo w es []) (sym grown) more)
 
     later-echo : is_active w r.state.books ≡ true → Echo w r2.entries (said_by w r2.taken)
-    later-echo a = subst (Echo w r2.entries) (sym taken-more) (subst (λ (es : List Entry). Echo w es (said_by w r.taken ++ said_by w (n ∷ []))) (sym grown) (elim (cases_of (n.worker == w)) [
-      | inl h ↦ subst (λ (l : List What). Echo w (r.entries ++ added r (input_of r n)) (said_by w r.taken ++ l)) (sym (said-own w n h))
-          (echo-more w r.entries (added r (input_of r n)) (said_by w r.taken) (n.what ∷ []) (sofar.echo a) (own-added h a (fine h a)))
-      | inr h ↦ subst (λ (l : List What). Echo w (r.entries ++ added r (input_of r n)) (said_by w r.taken ++ l)) (sym (said-other w n h))
-          (echo-more w r.entries (added r (input_of r n)) (said_by w r.taken) [] (sofar.echo a) (added-other h))
-    ]))
+    later-echo a =
+        subst (Echo w r2.entries) (sym taken-more) (subst (λ (es : List Entry). Echo w es (said_by w r.taken ++ said_by w (n ∷ []))) (sym grown) (elim (cases_of (n.worker == w)) [
+          | inl h ↦ subst (λ (l : List What). Echo w (r.entries ++ added r (input_of r n)) (said_by w r.taken ++ l)) (sym (said-own w n h))
+              (echo-more w r.entries (added r (input_of r n)) (said_by w r.taken) (n.what ∷ []) (sofar.echo a) (own-added h a (fine h a)))
+          | inr h ↦ subst (λ (l : List What). Echo w (r.entries ++ added r (input_of r n)) (said_by w r.taken ++ l)) (sym (said-other w n h))
+              (echo-more w r.entries (added r (input_of r n)) (said_by w r.taken) [] (sofar.echo a) (added-other h))
+        ]))
 
     echo-then : is_active w r2.state.books ≡ true → Echo w r2.entries (said_by w r2.taken)
     echo-then a = elim (cases_of (has_member w (λ m. true) r.state.books)) [
@@ -260,7 +262,8 @@ module _ (settings : Settings) (r : SoFar) (n : News) (sound : IsProperRun setti
         go : (b : Bool) → may_follow r.state (given_ids w own r.state) ≡ b
             → is_accused w (entry_of (input_of r n)) ≡ false
             → (input_of r n ≡ Some (given_ids w own r.state)) × (may_follow r.state (given_ids w own r.state) ≡ true)
-        go true q k = (is ∙ ap (λ (c : Bool). if c then Some (given_ids w own r.state) else Some (breach w (log_of (said_by w r.taken)) (spent_by r.entries) r.state)) q, q)
+        go true q k =
+            (is ∙ ap (λ (c : Bool). if c then Some (given_ids w own r.state) else Some (breach w (log_of (said_by w r.taken)) (spent_by r.entries) r.state)) q, q)
         go false q k =
             let own_ : (w == w) ≡ true = grind (arith, nat_tests) in
             let bad : input_of r n ≡ Some (breach w (log_of (said_by w r.taken)) (spent_by r.entries) r.state) =
@@ -352,8 +355,10 @@ module _ (settings : Settings) (r : SoFar) (n : News) (sound : IsProperRun setti
 
     ends-it : (x : What) → n.what ≡ x → is_last_told x ≡ true → (n.worker == w) ≡ true
         → is_active w r.state.books ≡ true → is_active w r2.state.books ≡ false
-    ends-it what.Finished e k h a = gone-then (Finished w) (or-entry (Finished w) (input-own h a ∙ ap (meaning_of w (log_of (said_by w r.taken)) (spent_by r.entries) r.state) e) (fine h a)) refl refl a
-    ends-it (what.Closed (Some t)) e k h a = gone-then (Refused w t) (or-entry (Refused w t) (input-own h a ∙ ap (meaning_of w (log_of (said_by w r.taken)) (spent_by r.entries) r.state) e) (fine h a)) refl refl a
+    ends-it what.Finished e k h a =
+        gone-then (Finished w) (or-entry (Finished w) (input-own h a ∙ ap (meaning_of w (log_of (said_by w r.taken)) (spent_by r.entries) r.state) e) (fine h a)) refl refl a
+    ends-it (what.Closed (Some t)) e k h a =
+        gone-then (Refused w t) (or-entry (Refused w t) (input-own h a ∙ ap (meaning_of w (log_of (said_by w r.taken)) (spent_by r.entries) r.state) e) (fine h a)) refl refl a
     ends-it (what.Closed None) e k h a =
         let own_ : (w == w) ≡ true = grind (arith, nat_tests) in
         let bad : input_of r n ≡ Some (breach w (log_of (said_by w r.taken)) (spent_by r.entries) r.state) = input-own h a
@@ -402,7 +407,8 @@ module _ (settings : Settings) (r : SoFar) (n : News) (sound : IsProperRun setti
 
 starts-echo : (w a n : ℕ) → Echo w (starts_from a n) []
 starts-echo w a zero = echo-none w
-starts-echo w a (suc n) = (let rest = starts-echo w (a + 1) n in record { answers = rest.answers; ended = rest.ended; ready = rest.ready; collected = rest.collected; dones = rest.dones; unaccused = rest.unaccused })
+starts-echo w a (suc n) =
+    (let rest = starts-echo w (a + 1) n in record { answers = rest.answers; ended = rest.ended; ready = rest.ready; collected = rest.collected; dones = rest.dones; unaccused = rest.unaccused })
 
 pub honest-begun : (settings : Settings) (w : ℕ) → IsProperRun settings (begun_run settings)
     → HonestSoFar w (begun_run settings)
@@ -420,8 +426,10 @@ pub member-fold : (settings : Settings) (w : ℕ) (r : SoFar) (pre : List News) 
     → has_member w (λ m. true) r.state.books ≡ true
     → has_member w (λ m. true) (fold after_news r pre).state.books ≡ true
 member-fold settings w r [] sound h = h
-member-fold settings w r (n ∷ pre) sound h = member-fold settings w (after_news r n) pre (sound-next settings r n sound) (member-then settings r n sound w h)
+member-fold settings w r (n ∷ pre) sound h =
+    member-fold settings w (after_news r n) pre (sound-next settings r n sound) (member-then settings r n sound w h)
 
 pub first-begun : (settings : Settings) (taken : List News) (w : ℕ) → IsProper settings []
     → has_member w (λ m. true) (begun_run settings).state.books ≡ true → AfterStart settings taken w
-first-begun settings taken w p h before n after e own = member-fold settings w (begun_run settings) before (sound-run settings [] p) h
+first-begun settings taken w p h before n after e own =
+    member-fold settings w (begun_run settings) before (sound-run settings [] p) h

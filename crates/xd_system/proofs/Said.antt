@@ -49,7 +49,8 @@ no-dones w (Done v n o ms b ∷ es) h = go (v == w) refl (λ k. no-dones w es k)
   where
     go : (q : Bool) → (v == w) ≡ q → (ends_by w es ≡ [] → outcomes_by w es ≡ [])
         → outcomes_by w (Done v n o ms b ∷ es) ≡ []
-    go true e rest = absurd (let z : n ∷ ends_by w es ≡ [] = sym (ap (λ (q : Bool). cons_option (if q then Some n else None) (ends_by w es)) e) ∙ h in cc)
+    go true e rest =
+        absurd (let z : n ∷ ends_by w es ≡ [] = sym (ap (λ (q : Bool). cons_option (if q then Some n else None) (ends_by w es)) e) ∙ h in cc)
     go false e rest = ap (λ (q : Bool). cons_option (if q then Some (n, o) else None) (outcomes_by w es)) e
         ∙ rest (sym (ap (λ (q : Bool). cons_option (if q then Some n else None) (ends_by w es)) e) ∙ h)
 no-dones w (Ready v ∷ es) h = no-dones w es h

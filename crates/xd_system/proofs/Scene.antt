@@ -48,7 +48,8 @@ taken = by 0 (what.Ready ∷ []) ++ (by 1 (what.Ready ∷ []) ++ (by 0 (what.Col
 
 -- gw1 got 5 to 9, ran 5 and 6, and runs 7
 abbrev pub before_steal : List Given
-before_steal = given (input.Done Passed 1) ∷ given (input.Done Passed 1) ∷ given (input.Command (Some (RunTests (5 ∷ 6 ∷ 7 ∷ 8 ∷ 9 ∷ [])))) ∷ given (input.Suite ten) ∷ []
+before_steal =
+    given (input.Done Passed 1) ∷ given (input.Done Passed 1) ∷ given (input.Command (Some (RunTests (5 ∷ 6 ∷ 7 ∷ 8 ∷ 9 ∷ [])))) ∷ given (input.Suite ten) ∷ []
 
 -- then the Steal of 8 and 9 came to it
 abbrev pub after_steal : List Given

@@ -142,7 +142,8 @@ module _ (settings : Settings) (s : System) (w : ℕ) (k : Shipped settings s w)
 
   orders-so : (i : Input) → MayCome settings s w i
       → IsFirstPart (orders_of link.given ++ order_in i) (told_to w (run_of settings s.taken).entries)
-  orders-so i (Ordered o later e) = begins-next (orders_of link.given) (told_to w (run_of settings s.taken).entries) o later k.honest.orders e
+  orders-so i (Ordered o later e) =
+      begins-next (orders_of link.given) (told_to w (run_of settings s.taken).entries) o later k.honest.orders e
   orders-so i (SuiteRead bytes tests mode suite) = no-order
   orders-so i (NoSuite text) = no-order
   orders-so i (Printed bytes) = no-order
@@ -227,7 +228,8 @@ module _ (settings : Settings) (proper : IsProper settings []) (s : System) (all
   at P v w h p = (let same : v ≡ w = grind (arith, nat_tests, h) in subst P same p)
 
   first-so : (v : ℕ) → heard_end s v ≡ false → IsFirstPart (said_by v s.taken) (told_so_far (s.links v))
-  first-so v none = took-none-last (s.links v).whole (said_by v s.taken) (told_so_far (s.links v)) none (all v).honest.news
+  first-so v none =
+      took-none-last (s.links v).whole (said_by v s.taken) (told_so_far (s.links v)) none (all v).honest.news
 
   -- whoever told something was called
   told-called : (v : ℕ) (x : What) (later : List What) → news_on_way s.taken v (s.links v) ≡ x ∷ later
@@ -242,11 +244,13 @@ module _ (settings : Settings) (proper : IsProper settings []) (s : System) (all
 
   takes : (v : ℕ) (x : What) (later : List What) → heard_end s v ≡ false
       → news_on_way s.taken v (s.links v) ≡ x ∷ later → TookNext v x
-  takes v x later none e = took-first (s.links v).whole (said_by v s.taken ++ x ∷ []) (told_so_far (s.links v)) (begins-next (said_by v s.taken) (told_so_far (s.links v)) x later (first-so v none) e)
+  takes v x later none e =
+      took-first (s.links v).whole (said_by v s.taken ++ x ∷ []) (told_so_far (s.links v)) (begins-next (said_by v s.taken) (told_so_far (s.links v)) x later (first-so v none) e)
 
   goes : (v : ℕ) (cause : Cause) → (s.links v).whole ≡ false → heard_end s v ≡ false → is_breach (Gone cause) ≡ false
       → TookNext v (Gone cause)
-  goes v cause cut none honest = subst (λ (b : Bool). TookOf b (said_by v s.taken ++ Gone cause ∷ []) (told_so_far (s.links v))) (sym cut)
+  goes v cause cut none honest =
+      subst (λ (b : Bool). TookOf b (said_by v s.taken ++ Gone cause ∷ []) (told_so_far (s.links v))) (sym cut)
       (inr (inl (record { heard = said_by v s.taken; cause = cause; begins = first-so v none; are = refl; honest = honest })))
 
   fails : (v : ℕ) → (s.links v).whole ≡ false → (s.links v).called ≡ false → heard_end s v ≡ false
@@ -274,7 +278,8 @@ module _ (settings : Settings) (proper : IsProper settings []) (s : System) (all
         (at (λ u. IsHonestAt settings s.taken u (link_cut (s.links v))) v w h (now-cut settings s v (all v)))
         (λ c. at (WasBegun settings s.taken) v w h ((all v).called c))
   ]
-  shipped-then t (IsTaken v x later none e) w = news-step settings proper s v x w ((all v).called (told-called v x later e))
+  shipped-then t (IsTaken v x later none e) w =
+      news-step settings proper s v x w ((all v).called (told-called v x later e))
       (λ h. at (λ u. TookNext u x) v w h (takes v x later none e)) (all w)
   shipped-then t (IsGone v cause begun cut none honest) w = news-step settings proper s v (Gone cause) w begun
       (λ h. at (λ u. TookNext u (Gone cause)) v w h (goes v cause cut none honest)) (all w)
@@ -300,7 +305,8 @@ shipped-fresh settings w = record {
 shipped : (settings : Settings) (s : System) → IsProper settings [] → Reaches settings s → (w : ℕ)
     → Shipped settings s w
 shipped settings s proper Fresh w = shipped-fresh settings w
-shipped settings s proper (Then p t before step) w = shipped-then settings proper p (shipped settings p proper before) t step w
+shipped settings s proper (Then p t before step) w =
+    shipped-then settings proper p (shipped settings p proper before) t step w
 
 pub shipped_honest : ShippedAreHonest
 shipped_honest settings s proper reached w = (shipped settings s proper reached w).honest

@@ -54,11 +54,13 @@ module _ (w : ℕ) (all : List Order) (ds : List (ℕ × Outcome)) (s : State) (
       → t.books.members ≡ map change s.books.members
       → ((m : Member) → (change m).worker ≡ m.worker) → ((m : Member) → (change m).active ≡ m.active)
       → Silent w all ds t (es ++ e ∷ [])
-  same e t change a d m x y = quiet e t a d (ap (has w (λ m. true)) m ∙ has-same w (λ m. true) change s.books.members x (λ m. refl)) (ap (has w (λ m. m.active)) m ∙ has-same w (λ m. m.active) change s.books.members x y ∙ k.gone)
+  same e t change a d m x y =
+      quiet e t a d (ap (has w (λ m. true)) m ∙ has-same w (λ m. true) change s.books.members x (λ m. refl)) (ap (has w (λ m. m.active)) m ∙ has-same w (λ m. m.active) change s.books.members x y ∙ k.gone)
 
   leave : (e : Entry) (t : State) (v : ℕ) → told_to w (e ∷ []) ≡ [] → outcomes_by w (e ∷ []) ≡ []
       → t.books.members ≡ map (made_gone v) s.books.members → Silent w all ds t (es ++ e ∷ [])
-  leave e t v a d m = quiet e t a d (ap (has w (λ m. true)) m ∙ has-same w (λ m. true) (made_gone v) s.books.members (λ m. refl) (λ m. refl))
+  leave e t v a d m =
+      quiet e t a d (ap (has w (λ m. true)) m ∙ has-same w (λ m. true) (made_gone v) s.books.members (λ m. refl) (λ m. refl))
       (ap (has w (λ m. m.active)) m ∙ has-cleared w v (λ m. m.active) (made_gone v) s.books.members (λ m. refl) (λ m. refl) ∙ ap (λ (b : Bool). not (w == v) && b) k.gone ∙ none (not (w == v)))
     where
       none : (b : Bool) → (b && false) ≡ false
@@ -85,7 +87,8 @@ module _ (w : ℕ) (all : List Order) (ds : List (ℕ × Outcome)) (s : State) (
   said : (e : Entry) → may_follow s e ≡ true → Silent w all ds (after_effect s e) (es ++ e ∷ [])
   said (Ready v) m = same (Ready v) (after_effect s (Ready v)) (made_ready v) refl refl refl (λ m. refl) (λ m. refl)
   said (Collected v g) m = said-collected v g
-  said (Done v n o ms b) m = (let h = other v (split-and (is_active v s.books) (names_head v n s) m).0 in quiet (Done v n o ms b) (after_effect s (Done v n o ms b)) refl (rw h refl) refl k.gone)
+  said (Done v n o ms b) m =
+      (let h = other v (split-and (is_active v s.books) (names_head v n s) m).0 in quiet (Done v n o ms b) (after_effect s (Done v n o ms b)) refl (rw h refl) refl k.gone)
   said (Back v ns) m = quiet (Back v ns) (after_effect s (Back v ns)) refl refl refl k.gone
   said (Finished v) m = leave (Finished v) (after_effect s (Finished v)) v refl refl refl
   said (Refused v text) m = leave (Refused v text) (after_effect s (Refused v text)) v refl refl refl
@@ -101,7 +104,8 @@ module _ (w : ℕ) (all : List Order) (ds : List (ℕ × Outcome)) (s : State) (
 
   told-start : (v slot : ℕ) → is_orderly s (Start v slot) ≡ true
       → Silent w all ds (after_effect s (Start v slot)) (es ++ Start v slot ∷ [])
-  told-start v slot m = quiet (Start v slot) (after_effect s (Start v slot)) refl refl (kept (λ m. true)) (kept (λ m. m.active) ∙ k.gone)
+  told-start v slot m =
+      quiet (Start v slot) (after_effect s (Start v slot)) refl refl (kept (λ m. true)) (kept (λ m. m.active) ∙ k.gone)
     where
       apart : (v == w) ≡ false
       apart = elim (cases_of (v == w)) [
@@ -120,13 +124,15 @@ module _ (w : ℕ) (all : List Order) (ds : List (ℕ × Outcome)) (s : State) (
 
   told : (e : Entry) → Placed s → is_orderly s e ≡ true → Silent w all ds (after_effect s e) (es ++ e ∷ [])
   told (Start v slot) p m = told-start v slot m
-  told (Run v ns) p m = (let h = other v (p.fits.active v (gives-run v ns s p m).rota) in quiet (Run v ns) (after_effect s (Run v ns)) (rw h refl) refl refl k.gone)
+  told (Run v ns) p m =
+      (let h = other v (p.fits.active v (gives-run v ns s p m).rota) in quiet (Run v ns) (after_effect s (Run v ns)) (rw h refl) refl refl k.gone)
   told (RunAll v) p m =
       let a = split-and (is_each s.plan.mode && s.books.shared && may_run v s) (all_among (slot_items (slot_of v s.books) s.plan) s.books.table.pool) m in
       let b = split-and (is_each s.plan.mode && s.books.shared) (may_run v s) a.0 in
       let h = other v (p.fits.active v (split-and (in_rota v s.books.table) (not (is_shut v s.books)) b.1).0) in
       quiet (RunAll v) (after_effect s (RunAll v)) (rw h refl) refl refl k.gone
-  told (Steal v ns) p m = (let h = other v (p.fits.active v (steal-rota v ns s m)) in quiet (Steal v ns) (after_effect s (Steal v ns)) (rw h refl) refl refl k.gone)
+  told (Steal v ns) p m =
+      (let h = other v (p.fits.active v (steal-rota v ns s m)) in quiet (Steal v ns) (after_effect s (Steal v ns)) (rw h refl) refl refl k.gone)
   told (Shutdown v) p m =
       let a = split-and (is_active v s.books && was_ready v s.books) (not (is_shut v s.books)) m in
       let h = other v (split-and (is_active v s.books) (was_ready v s.books) a.0).0 in

@@ -65,4 +65,5 @@ member-told w s (Down v c b) m h = absurd (differ m)
 member-told w s (NotStarted v) m h = absurd (differ m)
 
 pub keeps_member : (settings : Settings) (w : ℕ) → Keeps settings (WasStarted w)
-keeps_member settings w = record { said = λ s es e t m at k. member-said w s e m k; told = λ s es e p m at k. member-told w s e m k; settled = λ s es k. k }
+keeps_member settings w =
+    record { said = λ s es e t m at k. member-said w s e m k; told = λ s es e p m at k. member-told w s e m k; settled = λ s es k. k }

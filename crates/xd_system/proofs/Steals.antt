@@ -161,7 +161,8 @@ count-both : (j k : ℕ) (xs : List ℕ) → j ≤ k → j ≤ length xs → j �
 count-both zero k xs h l = omega arith
 count-both (suc j) zero xs h l = absurd (omega (arith, h))
 count-both (suc j) (suc k) [] h l = absurd (omega (arith, l))
-count-both (suc j) (suc k) (x ∷ xs) h l = (let rest = count-both j k xs (omega (arith, h)) (omega (arith, l)) in omega (arith, rest))
+count-both (suc j) (suc k) (x ∷ xs) h l =
+    (let rest = count-both j k xs (omega (arith, h)) (omega (arith, l)) in omega (arith, rest))
 
 -- the first of the line stay
 first-stays : (ns D : List ℕ) (j p : ℕ) → all_distinct D ≡ true → all_among ns (drop p D) ≡ true → j ≤ p
@@ -215,7 +216,8 @@ among-drops x (suc j) (suc p) (y ∷ D) X h k = among-drops x j p D X (omega (ar
 all-drops : (ns : List ℕ) (j p : ℕ) (D X : List ℕ) → j + 1 ≤ p → all_among ns (drop p D) ≡ true
     → all_among ns (drop 1 (drop j D ++ X)) ≡ true
 all-drops [] j p D X h k = refl
-all-drops (n ∷ ns) j p D X h k = (let q = split-and (among n (drop p D)) (all_among ns (drop p D)) k in rw (among-drops n j p D X h q.0, all-drops ns j p D X h q.1) refl)
+all-drops (n ∷ ns) j p D X h k =
+    (let q = split-and (among n (drop p D)) (all_among ns (drop p D)) k in rw (among-drops n j p D X h q.0, all-drops ns j p D X h q.1) refl)
 
 module _ (size : ℕ) (orders : List Order) (ns : List ℕ) (news : List What) where
   abbrev more : List Order

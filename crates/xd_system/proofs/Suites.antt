@@ -28,7 +28,8 @@ use Rattle.xd_system.specs.Tells.{are_suite_ids}
 plain-append : (xs ys : List ℕ) → list_all is_plain xs ≡ true → list_all is_plain ys ≡ true
     → list_all is_plain (xs ++ ys) ≡ true
 plain-append [] ys h k = k
-plain-append (x ∷ xs) ys h k = (let p = split-and (is_plain x) (list_all is_plain xs) h in and p.0 (plain-append xs ys p.1 k))
+plain-append (x ∷ xs) ys h k =
+    (let p = split-and (is_plain x) (list_all is_plain xs) h in and p.0 (plain-append xs ys p.1 k))
 
 plain-id : (xs : List ℕ) → is_id xs ≡ true → list_all is_plain xs ≡ true
 plain-id [] h = refl
@@ -79,7 +80,8 @@ apart-less t before (u ∷ texts) h =
 unrepeated : (k : ℕ) (before texts : List (List ℕ)) → repeat_from k before texts ≡ None
     → (no_text_twice texts ≡ true) × (are_apart before texts ≡ true)
 unrepeated k before [] h = (refl, refl)
-unrepeated k before (t ∷ texts) h = go (list_any (bytes_eq t) before) refl (unrepeated (k + 1) (before ++ t ∷ []) texts) h
+unrepeated k before (t ∷ texts) h =
+    go (list_any (bytes_eq t) before) refl (unrepeated (k + 1) (before ++ t ∷ []) texts) h
   where
     go : (b : Bool) → list_any (bytes_eq t) before ≡ b
         → (repeat_from (k + 1) (before ++ t ∷ []) texts ≡ None → (no_text_twice texts ≡ true) × (are_apart (before ++ t ∷ []) texts ≡ true))

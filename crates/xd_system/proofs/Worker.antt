@@ -69,7 +69,8 @@ module _ (size : ℕ) (orders : List Order) (before : List What) (t : CallTurn) 
       subst (λ (b : Bool). IsTurn size (orders ++ o ∷ []) before (if b then line_settled true u else ended_early BadCommand t)) (sym can) (settles size (orders ++ o ∷ []) before few u ku)
 
   takes : (o : Order) → MayTake size row o → IsTurn size (orders ++ o ∷ []) before (told true (Some o) t)
-  takes (RunTests ns) h = gives (RunTests ns) ns (put size orders (RunTests ns) ns (told_in before t) t.call refl refl refl k.serves unshut h) (can_give-line size orders (told_in before t) t.call ns k.serves unshut h)
+  takes (RunTests ns) h =
+      gives (RunTests ns) ns (put size orders (RunTests ns) ns (told_in before t) t.call refl refl refl k.serves unshut h) (can_give-line size orders (told_in before t) t.call ns k.serves unshut h)
   takes RunAll h =
       let e : t.call.size ≡ size = k.serves.size_is in
       subst (λ (z : ℕ). IsTurn size (orders ++ RunAll ∷ []) before (given true (range_with_len 0 z) t)) (sym e)
@@ -85,7 +86,8 @@ module _ (size : ℕ) (orders : List Order) (before : List What) (t : CallTurn) 
 over-more : (size : ℕ) (orders : List Order) (o : Order) (before : List What) (t : CallTurn)
     → list_any is_shutdown orders ≡ false → IsOverTurn size orders before t
     → IsOverTurn size (orders ++ o ∷ []) before t
-over-more size orders o before t unshut k = record { phase = k.phase; idle = k.idle; said = k.said; left_none = k.left_none; passed_is = k.passed_is; finishes = k.finishes; all_ended = λ c. absurd (differ (sym unshut ∙ (k.all_ended c).shut)); none_ended = k.none_ended; fit = λ all b m. k.fit all (begins-less orders (o ∷ []) all b) m }
+over-more size orders o before t unshut k =
+    record { phase = k.phase; idle = k.idle; said = k.said; left_none = k.left_none; passed_is = k.passed_is; finishes = k.finishes; all_ended = λ c. absurd (differ (sym unshut ∙ (k.all_ended c).shut)); none_ended = k.none_ended; fit = λ all b m. k.fit all (begins-less orders (o ∷ []) all b) m }
 
 -- an order comes to a call that serves, or that is over
 hears : (size : ℕ) (orders : List Order) (o : Order) (before : List What) (t : CallTurn) → size ≤ most_tests
@@ -141,14 +143,18 @@ module _ (size : ℕ) (all : List Order) (answers : List (List ℕ)) (w : Allows
       let a_now = answers-begin before t (told true (Some o) t) answers (grows-told true (Some o) t) a in
       takes size orders before t k (unshut-before orders b.0 o all w.marks e) few o (w.may orders o b.0 (answers_in (told_in before t)) a_now.0 e a_now.1 k.serves.answered)
   serves-input orders t input.ReceivingEnded k h b a = absurd (differ h)
-  serves-input orders t (input.Suite ids) k h b a = subst (λ (l : List Order). IsTurn size l before t) (sym (append-nil orders)) (inl k)
-  serves-input orders t (input.SuiteRefused text) k h b a = subst (λ (l : List Order). IsTurn size l before t) (sym (append-nil orders)) (inl k)
-  serves-input orders t (input.Output bytes) k h b a = subst (λ (l : List Order). IsTurn size l before (output_fed (running_test t.call) Serving bytes t)) (sym (append-nil orders)) (go (running_test t.call) refl)
+  serves-input orders t (input.Suite ids) k h b a =
+      subst (λ (l : List Order). IsTurn size l before t) (sym (append-nil orders)) (inl k)
+  serves-input orders t (input.SuiteRefused text) k h b a =
+      subst (λ (l : List Order). IsTurn size l before t) (sym (append-nil orders)) (inl k)
+  serves-input orders t (input.Output bytes) k h b a =
+      subst (λ (l : List Order). IsTurn size l before (output_fed (running_test t.call) Serving bytes t)) (sym (append-nil orders)) (go (running_test t.call) refl)
     where
       go : (r : Option ℕ) → running_test t.call ≡ r → IsTurn size orders before (output_fed r Serving bytes t)
       go None e = inl k
       go (Some n) e = inl (prints size orders before t k n e bytes)
-  serves-input orders t (input.Done outcome ms) k h b a = subst (λ (l : List Order). IsTurn size l before (done_of (running_test t.call) Serving true outcome ms t)) (sym (append-nil orders)) (go (running_test t.call) refl)
+  serves-input orders t (input.Done outcome ms) k h b a =
+      subst (λ (l : List Order). IsTurn size l before (done_of (running_test t.call) Serving true outcome ms t)) (sym (append-nil orders)) (go (running_test t.call) refl)
     where
       go : (r : Option ℕ) → running_test t.call ≡ r → IsTurn size orders before (done_of r Serving true outcome ms t)
       go None e = inl k
@@ -166,10 +172,14 @@ module _ (size : ℕ) (before : List What) where
   over-input orders t (input.Command None) k h u = absurd (differ h)
   over-input orders t (input.Command (Some o)) k h u = over-more size orders o before t (u o refl) k
   over-input orders t input.ReceivingEnded k h u = absurd (differ h)
-  over-input orders t (input.Suite ids) k h u = subst (λ (l : List Order). IsOverTurn size l before t) (sym (append-nil orders)) k
-  over-input orders t (input.SuiteRefused text) k h u = subst (λ (l : List Order). IsOverTurn size l before t) (sym (append-nil orders)) k
-  over-input orders t (input.Output bytes) k h u = subst (λ (l : List Order). IsOverTurn size l before t) (sym (append-nil orders)) k
-  over-input orders t (input.Done outcome ms) k h u = subst (λ (l : List Order). IsOverTurn size l before t) (sym (append-nil orders)) k
+  over-input orders t (input.Suite ids) k h u =
+      subst (λ (l : List Order). IsOverTurn size l before t) (sym (append-nil orders)) k
+  over-input orders t (input.SuiteRefused text) k h u =
+      subst (λ (l : List Order). IsOverTurn size l before t) (sym (append-nil orders)) k
+  over-input orders t (input.Output bytes) k h u =
+      subst (λ (l : List Order). IsOverTurn size l before t) (sym (append-nil orders)) k
+  over-input orders t (input.Done outcome ms) k h u =
+      subst (λ (l : List Order). IsOverTurn size l before t) (sym (append-nil orders)) k
   over-input orders t input.Stop k h u = absurd (differ h)
 
 -- a call that waits for its suite
@@ -252,7 +262,8 @@ record StillWaits (R : List Order) (t : CallTurn) : Type 0 where
 
 module _ (size : ℕ) (all : List Order) (answers : List (List ℕ)) (w : Allows size all answers) where
   waits-same : (R : List Order) (t : CallTurn) → t ≡ call_turn_of (waits_with R) → StillWaits (R ++ []) t
-  waits-same R t e = record { call = ap (λ (u : CallTurn). u.call) e ∙ ap waits_with (sym (append-nil R)); asks = ap (λ (u : CallTurn). u.asks) e }
+  waits-same R t e =
+      record { call = ap (λ (u : CallTurn). u.call) e ∙ ap waits_with (sym (append-nil R)); asks = ap (λ (u : CallTurn). u.asks) e }
 
   few-ids : (ids : List (List ℕ)) → length ids ≡ size → are_suite_ids ids ≡ true → size ≤ most_tests
   few-ids ids e k =
@@ -265,7 +276,8 @@ module _ (size : ℕ) (all : List Order) (answers : List (List ℕ)) (w : Allows
       → IsFirstPart (answers_in (told_in (what.Ready ∷ []) (awaiting_turn R i))) answers
       → StillWaits (R ++ order_in i) (awaiting_turn R i) ⊎ (IsOverTurn size (R ++ order_in i) (what.Ready ∷ []) (awaiting_turn R i) ⊎ ((size ≤ most_tests) × IsTurn size (R ++ order_in i) (what.Ready ∷ []) (awaiting_turn R i)))
   awaits-input R (input.Command None) h sized b a = absurd (differ h)
-  awaits-input R (input.Command (Some o)) h sized b a = inl (record { call = ap (λ (l : List (Option Order)). record new_call { waiting = l }) (sym (map-last R o)); asks = refl })
+  awaits-input R (input.Command (Some o)) h sized b a =
+      inl (record { call = ap (λ (l : List (Option Order)). record new_call { waiting = l }) (sym (map-last R o)); asks = refl })
   awaits-input R input.ReceivingEnded h sized b a = absurd (differ h)
   awaits-input R (input.Suite ids) h sized b a =
       let few : size ≤ most_tests = few-ids ids (sized ids refl) h in
@@ -274,7 +286,8 @@ module _ (size : ℕ) (all : List Order) (answers : List (List ℕ)) (w : Allows
         subst (λ (l : List Order). IsTurn size l (what.Ready ∷ []) (awaiting_turn R (input.Suite ids))) (sym (append-nil R))
             (hears-all size all answers w few (what.Ready ∷ []) R [] (begun (waits_with R) ids) (inl (begins-serving size (waits_with R) ids (sized ids refl) h)) (subst (λ (l : List Order). IsFirstPart l all) (append-nil R) b) a),
       ))
-  awaits-input R (input.SuiteRefused text) h sized b a = inr (inl (record { phase = refl; idle = refl; said = refl; left_none = refl; passed_is = refl; all_ended = λ c. absurd (differ c); finishes = λ c. absurd (differ c); none_ended = λ c. refl; fit = λ c d m. fit-refused size c text }))
+  awaits-input R (input.SuiteRefused text) h sized b a =
+      inr (inl (record { phase = refl; idle = refl; said = refl; left_none = refl; passed_is = refl; all_ended = λ c. absurd (differ c); finishes = λ c. absurd (differ c); none_ended = λ c. refl; fit = λ c d m. fit-refused size c text }))
   awaits-input R (input.Output bytes) h sized b a = inl (waits-same R _ refl)
   awaits-input R (input.Done outcome ms) h sized b a = inl (waits-same R _ refl)
   awaits-input R input.Stop h sized b a = absurd (differ h)
@@ -395,6 +408,7 @@ module _ (size : ℕ) (all : List Order) (answers : List (List ℕ)) (w : Allows
   -- what it told may come, whatever further orders are on the way
   pub tells_fit : (gs : List Given) → CallIs size gs → (more : List Order) → IsFirstPart (orders_of gs) more
       → marks_last more ≡ true → AllFit size more (tells gs)
-  tells_fit gs (inl k) more b m = subst (AllFit size more) (sym (ap (λ (l : List Ask). what.Ready ∷ news_of_asks l) k.none)) (fit-ready size more)
+  tells_fit gs (inl k) more b m =
+      subst (AllFit size more) (sym (ap (λ (l : List Ask). what.Ready ∷ news_of_asks l) k.none)) (fit-ready size more)
   tells_fit gs (inr (inl k)) more b m = k.fit more b m
   tells_fit gs (inr (inr k)) more b m = k.fit more b m

@@ -46,7 +46,8 @@ steals-next = refl
 steals-next-not-honest : (l : LinkNow)
     → IsHonestAt stealing (taken ++ by 1 (gave_next ++ what.LogClosed 6 ∷ what.Done 7 Passed 1 ∷ what.LogStart 8 8 ∷ [])) 1 l
     → ⊥
-steals-next-not-honest = not-honest (taken ++ by 1 (gave_next ++ what.LogClosed 6 ∷ what.Done 7 Passed 1 ∷ what.LogStart 8 8 ∷ [])) steals-next
+steals-next-not-honest =
+    not-honest (taken ++ by 1 (gave_next ++ what.LogClosed 6 ∷ what.Done 7 Passed 1 ∷ what.LogStart 8 8 ∷ [])) steals-next
 
 -- the machine gives nothing back there
 machine-keeps-next : tells after_steal ≡ what.Ready ∷ what.Collected ten ∷ (told_before ++ what.Back [] ∷ [])
@@ -73,7 +74,8 @@ completes-seven = refl
 
 completes-seven-not-honest : (l : LinkNow)
     → IsHonestAt stealing (taken ++ by 1 (what.LogStart 5 2 ∷ what.LogClosed 2 ∷ what.Done 7 Passed 1 ∷ [])) 1 l → ⊥
-completes-seven-not-honest = not-honest (taken ++ by 1 (what.LogStart 5 2 ∷ what.LogClosed 2 ∷ what.Done 7 Passed 1 ∷ [])) completes-seven
+completes-seven-not-honest =
+    not-honest (taken ++ by 1 (what.LogStart 5 2 ∷ what.LogClosed 2 ∷ what.Done 7 Passed 1 ∷ [])) completes-seven
 
 -- or it starts 7 before 5
 starts-seven : is_accused 1 (run_of stealing (taken ++ by 1 (what.LogStart 7 2 ∷ []))).entries ≡ true
