@@ -79,7 +79,7 @@ module _ (w : ℕ) (ns : List ℕ) (es : List Entry) (s : State) (placed : Place
   -- none of them is in the line
   fresh : (n : ℕ) → among n ns ≡ true → among n (line_at w s es) ≡ false
   fresh n a = elim (cases_of (among n (line_at w s es))) [
-    | inl b ↦ absurd (elim (cases_of (among n (ends_by w es))) [ inl c ↦ reported c | inr c ↦ holds (behind b c) ])
+    | inl b ↦ absurd (elim (cases_of (among n (ends_by w es))) [ inl c ↦ reported c | inr c ↦ holds (still-held b c) ])
     | inr b ↦ b
   ]
     where
@@ -100,9 +100,9 @@ module _ (w : ℕ) (ns : List ℕ) (es : List Entry) (s : State) (placed : Place
       either [] ys p q = p
       either (x ∷ xs) ys p q = grind (arith, nat_tests, either xs ys, p, q)
 
-      behind : among n (line_at w s es) ≡ true → among n (ends_by w es) ≡ false
+      still-held : among n (line_at w s es) ≡ true → among n (ends_by w es) ≡ false
           → among n (drop (length (ends_by w es)) (line_at w s es)) ≡ true
-      behind b c =
+      still-held b c =
           let k = length (ends_by w es) in
           let line = line_at w s es in
           either (take k line) (drop k line) (ap (among n) (take-append-drop k line) ∙ b) (ap (among n) d.ended_first ∙ c)

@@ -339,12 +339,12 @@ module _ (size : ℕ) (orders : List Order) (ns : List ℕ) (before : List What)
       let e : told_in before u ≡ news ++ what.Back ns ∷ [] = told-more before t.asks (Tell (what.Back (stolen_tests ns (queue c))) ∷ [])
       ∙ ap (λ (x : List ℕ). news ++ what.Back x ∷ []) a in
       let first : j ≤ p = (let x = passes c in let y = s.ended_is in omega (arith, x, y)) in
-      let behind : j + 1 ≤ p = (let x = passes c in let y = s.ended_is in omega (arith, x, y)) in
+      let after-running : j + 1 ≤ p = (let x = passes c in let y = s.ended_is in omega (arith, x, y)) in
       record {
         serves = answered size orders ns news c s unshut ns (front c ++ kept ns (queue c)) (told_in before u) e line (first-stays ns E j p s.distinct queued first ended-few)
             (λ n r h. head-front c.ended p c.line (kept ns (queue c)) n h (runs-passed c));
         fit = λ all b m. subst (AllFit size all) (sym e) (fit-more size all news (what.Back ns) (k.fit all (begins-less orders (Steal ns ∷ []) all b) m)
-            (may_answer size orders ns news c s ns all b (all-answered ns) (λ X. all-drops ns j p E X behind queued)));
+            (may_answer size orders ns news c s ns all b (all-answered ns) (λ X. all-drops ns j p E X after-running queued)));
       }
 
   -- a steal of tests of the line, in its order, is answered by all of them or by none
