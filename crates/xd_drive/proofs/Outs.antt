@@ -25,7 +25,7 @@ use Rattle.xd_ledger.specs.State.{after_effect, after_entries, settles}
 use Rattle.xd_ledger.specs.Outputs.{acts_of, outputs_of_death, outputs_of_joining, closing, outputs, own_outputs, shut_all, slots_of_rota, turn_of, unless_stopped}
 use Rattle.xd_edge.specs.Limits.{most_tests}
 use Rattle.xd_ledger.specs.Proper.{may_follow}
-use Rattle.xd_ledger.specs.Orderly.{all_orderly, is_orderly, may_run, not_empty}
+use Rattle.xd_ledger.specs.Orderly.{is_in_order, all_orderly, is_orderly, may_run, not_empty}
 use Rattle.xd_laws.proofs.Logic.{and, cases_of, differ, in_both, not_true, split-and, split-or}
 use Rattle.xd_laws.proofs.Members.{has, has-more, has-same}
 use Rattle.xd_laws.proofs.Counts.{all_among-drop}
@@ -232,11 +232,11 @@ run-few settings t w indices b k h =
 
 steal-few : (settings : Settings) (t : State) (w : ℕ) (indices : List ℕ) → Bounded settings t → Placed t → is_each t.plan.mode ≡ false → is_orderly t (Steal w indices) ≡ true → (in_rota w t.books.table ≡ true) × (length indices ≤ most_tests)
 steal-few settings t w indices b k y h =
-    let d = split-and (may_run w t && is_none t.plan.steal && not_empty indices && all_distinct indices) (all_among indices (drop 2 (held w t.books.table))) h in
-    let c = split-and (may_run w t && is_none t.plan.steal && not_empty indices) (all_distinct indices) d.0 in
-    let r = split-and (may_run w t && is_none t.plan.steal) (not_empty indices) c.0 in
-    let q = split-and (may_run w t) (is_none t.plan.steal) r.0 in
-    let a = split-and (in_rota w t.books.table) (not (is_shut w t.books)) q.0 in
+    let d = split-and (may_run w t && is_in_order (items_named (slot_of w t.books) indices t.plan) (held w t.books.table) && is_none t.plan.steal && not_empty indices && all_distinct indices) (all_among indices (drop 2 (held w t.books.table))) h in
+    let c = split-and (may_run w t && is_in_order (items_named (slot_of w t.books) indices t.plan) (held w t.books.table) && is_none t.plan.steal && not_empty indices) (all_distinct indices) d.0 in
+    let r = split-and (may_run w t && is_in_order (items_named (slot_of w t.books) indices t.plan) (held w t.books.table) && is_none t.plan.steal) (not_empty indices) c.0 in
+    let q = split-and (may_run w t && is_in_order (items_named (slot_of w t.books) indices t.plan) (held w t.books.table)) (is_none t.plan.steal) r.0 in
+    let a = split-and (in_rota w t.books.table) (not (is_shut w t.books)) (split-and (may_run w t) (is_in_order (items_named (slot_of w t.books) indices t.plan) (held w t.books.table)) q.0).0 in
     let all = b.whole y in
     (a.0, omega (arith, few-of_held t w indices k c.1 (all_among-drop 2 indices (held w t.books.table) d.1), all))
 
@@ -316,8 +316,8 @@ goes : (settings : Settings) (slots limit : ℕ) (marks : ℕ → Marks) (t : St
     → Goes slots marks e (after_effect t e)
 goes settings slots limit marks t (Run w is) l p h b k a = (let r = run-few settings t w is b k h in goes-same slots marks (Run w is) t (after_effect t (Run w is)) refl (λ v. refl) (and (rota-tell t marks w k a r.0) (few (length is) r.1)) a)
 goes settings slots limit marks t (RunAll w) l p h b k a =
-    let d = split-and (is_each t.plan.mode && may_run w t) (all_among (slot_items (slot_of w t.books) t.plan) t.books.table.pool) h in
-    let c = split-and (is_each t.plan.mode) (may_run w t) d.0 in
+    let d = split-and (is_each t.plan.mode && t.books.shared && may_run w t) (all_among (slot_items (slot_of w t.books) t.plan) t.books.table.pool) h in
+    let c = split-and (is_each t.plan.mode && t.books.shared) (may_run w t) d.0 in
     let r = split-and (in_rota w t.books.table) (not (is_shut w t.books)) c.1 in
     goes-same slots marks (RunAll w) t (after_effect t (RunAll w)) refl (λ v. refl) (rota-tell t marks w k a r.0) a
 goes settings slots limit marks t (Steal w is) l p h b k a =

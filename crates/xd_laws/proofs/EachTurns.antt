@@ -56,9 +56,9 @@ all_among-without xs those ys h k = all_among-of xs (without those ys) (λ x i.
 
 -- one worker gets its slot
 
-orderly-run_all : (m : State) (w : ℕ) → is_each m.plan.mode ≡ true → in_rota w m.books.table ≡ true → is_shut w m.books ≡ false
+orderly-run_all : (m : State) (w : ℕ) → is_each m.plan.mode ≡ true → m.books.shared ≡ true → in_rota w m.books.table ≡ true → is_shut w m.books ≡ false
     → all_among (slot_items (slot_of w m.books) m.plan) m.books.table.pool ≡ true → is_orderly m (RunAll w) ≡ true
-orderly-run_all m w a b c d = rw (d, a, b, c)
+orderly-run_all m w a e b c d = rw (d, a, e, b, c)
 
 -- the worker may get all of its slot
 record MayTake (s : State) (t : Turn) (w : ℕ) : Type 0 where
@@ -85,7 +85,7 @@ steady-run_all s w t e a g k =
     let yours : items ≡ slot_items slot s.plan = ap (λ (p : Plan). slot_items slot p) g.same in
     record {
       good = good-more s t (record t { table = assigned w items t.table; acts = t.acts ++ RunAll w ∷ [] }) (RunAll w) g.good refl refl
-          (orderly-run_all m w (ap (λ (p : Plan). is_each p.mode) (g.good.plan ∙ g.same) ∙ e) (in_rota-following s t w g.good a) (unshut-of s t w g.good a k.unshut)
+          (orderly-run_all m w (ap (λ (p : Plan). is_each p.mode) (g.good.plan ∙ g.same) ∙ e) g.good.shared (in_rota-following s t w g.good a) (unshut-of s t w g.good a k.unshut)
           (ap (λ (xs : List ℕ). all_among xs m.books.table.pool) mine ∙ ap (λ (u : Table). all_among (slot_items slot s.plan) u.pool) g.good.table ∙ k.within))
           (ap (λ (xs : List ℕ). assigned w xs m.books.table) (mine ∙ sym yours) ∙ ap (λ (u : Table). assigned w items u) g.good.table)
           g.good.plan (workers-change w (λ s. record s { held = s.held ++ items }) t.table.rota (λ s. refl)) refl;

@@ -25,7 +25,7 @@ use Rattle.xd_ledger.specs.Deaths.{steal_without}
 use Rattle.xd_ledger.specs.Results.{completed_first}
 use Rattle.xd_ledger.specs.State.{after_effect}
 use Rattle.xd_ledger.specs.Proper.{may_follow, may_give_back, is_head, are_ids}
-use Rattle.xd_ledger.specs.Orderly.{is_orderly, may_run, not_empty}
+use Rattle.xd_ledger.specs.Orderly.{is_in_order, is_orderly, may_run, not_empty}
 use Rattle.xd_laws.proofs.Logic.{differ, cases_of, split-and, not_true, or-false, in_both}
 use Rattle.xd_laws.proofs.Counts.{among-drop, among-times, times-range, distinct-range, all_among-drop, distinct-plus}
 use Rattle.xd_laws.proofs.Rota.{none-of_seat, seat-of_held}
@@ -119,8 +119,8 @@ placed-run_all : (s : State) (w : ℕ) → Placed s → is_orderly s (RunAll w) 
 placed-run_all s w k h =
     let slot = slot_of w s.books in
     let items = slot_items slot s.plan in
-    let d = split-and (is_each s.plan.mode && may_run w s) (all_among items s.books.table.pool) h in
-    let c = split-and (is_each s.plan.mode) (may_run w s) d.0 in
+    let d = split-and (is_each s.plan.mode && s.books.shared && may_run w s) (all_among items s.books.table.pool) h in
+    let c = split-and (is_each s.plan.mode && s.books.shared) (may_run w s) d.0 in
     let a = split-and (in_rota w s.books.table) (not (is_shut w s.books)) c.1 in
     placed-assigned s.books.table s.books.members s.books.shared (total s.plan) s.plan.steal w items k a.0 (distinct-range (base slot s.plan) (slice_index s.plan.sizes slot)) d.1
 
@@ -147,9 +147,9 @@ first_among (i ∷ is) xs h k = (i, (split-and (among i xs) (all_among is xs) k)
 
 placed-steal : (s : State) (w : ℕ) (indices : List ℕ) → Placed s → is_orderly s (Steal w indices) ≡ true → Placed (after_effect s (Steal w indices))
 placed-steal s w indices k h =
-    let d = split-and (may_run w s && is_none s.plan.steal && not_empty indices && all_distinct indices) (all_among indices (drop 2 (held w s.books.table))) h in
-    let c = split-and (may_run w s && is_none s.plan.steal && not_empty indices) (all_distinct indices) d.0 in
-    let one = first_among indices (drop 2 (held w s.books.table)) (split-and (may_run w s && is_none s.plan.steal) (not_empty indices) c.0).1 d.1 in
+    let d = split-and (may_run w s && is_in_order (items_named (slot_of w s.books) indices s.plan) (held w s.books.table) && is_none s.plan.steal && not_empty indices && all_distinct indices) (all_among indices (drop 2 (held w s.books.table))) h in
+    let c = split-and (may_run w s && is_in_order (items_named (slot_of w s.books) indices s.plan) (held w s.books.table) && is_none s.plan.steal && not_empty indices) (all_distinct indices) d.0 in
+    let one = first_among indices (drop 2 (held w s.books.table)) (split-and (may_run w s && is_in_order (items_named (slot_of w s.books) indices s.plan) (held w s.books.table) && is_none s.plan.steal) (not_empty indices) c.0).1 d.1 in
     record { fits = k.fits; whole = k.whole; steals = (c.1, shared-of_held s w one.0 k (among-drop one.0 2 (held w s.books.table) one.1)) }
 
 pub placed-output : (s : State) (e : Entry) → is_orderly s e ≡ true → Placed s → Placed (after_effect s e)

@@ -280,8 +280,8 @@ rota-run s w is h =
 rota-run_all : (s : State) (w : ℕ) → is_orderly s (RunAll w) ≡ true → in_rota w s.books.table ≡ true
 rota-run_all s w h =
     let items = slot_items (slot_of w s.books) s.plan in
-    let a = split-and (is_each s.plan.mode && may_run w s) (all_among items s.books.table.pool) h in
-    let b = split-and (is_each s.plan.mode) (may_run w s) a.0 in
+    let a = split-and (is_each s.plan.mode && s.books.shared && may_run w s) (all_among items s.books.table.pool) h in
+    let b = split-and (is_each s.plan.mode && s.books.shared) (may_run w s) a.0 in
     (split-and (in_rota w s.books.table) (not (is_shut w s.books)) b.1).0
 
 stands-told : (s : State) (e : Entry) (x : ℕ) (p : Option Place) → Placed s → is_orderly s e ≡ true → StandsAt s.books.table x p → StandsAt (after_effect s e).books.table x (or_before (puts s e x) p)

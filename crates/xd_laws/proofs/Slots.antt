@@ -172,8 +172,8 @@ own-output s (Start w slot) h d k = own-start s w slot k
 own-output s (Run w is) h d k = own-run s w is h d k
 own-output s (RunAll w) h d k =
     let slot = slot_of w s.books in
-    let a = split-and (is_each s.plan.mode && may_run w s) (all_among (slot_items slot s.plan) s.books.table.pool) h in
-    let b = split-and (is_each s.plan.mode) (may_run w s) a.0 in
+    let a = split-and (is_each s.plan.mode && s.books.shared && may_run w s) (all_among (slot_items slot s.plan) s.books.table.pool) h in
+    let b = split-and (is_each s.plan.mode && s.books.shared) (may_run w s) a.0 in
     own-given s w (slot_items slot s.plan) s.plan refl refl d (split-and (in_rota w s.books.table) _ b.1).0 (λ each x z. z) k
 own-output s (Steal w is) h d k = k
 own-output s (Shutdown w) h d k = own-shutdown s w k

@@ -25,7 +25,7 @@ use Rattle.xd_ledger.specs.Outputs.{acts_of, outputs_of_death, closing, own_outp
 use Rattle.xd_ledger.specs.Modes.ModeCall.{Died}
 use Rattle.xd_ledger.specs.Histories.{after_starts, first_starts, starts_from, after_inputs}
 use Rattle.xd_ledger.specs.Proper.{all_may_follow, may_follow}
-use Rattle.xd_ledger.specs.Orderly.{is_orderly, all_orderly, may_run, not_empty}
+use Rattle.xd_ledger.specs.Orderly.{is_in_order, is_orderly, all_orderly, may_run, not_empty}
 use Rattle.xd_laws.proofs.Logic.{differ, cases_of, in_both, split-and, split-or}
 use Rattle.xd_laws.proofs.Rota.{has_seat, seat-left}
 use Rattle.xd_laws.proofs.Placed.{empty_of, first_named-by, no_back}
@@ -98,9 +98,9 @@ spent-run s w indices h e =
 spent-steal : (s : State) (w : ℕ) (indices : List ℕ) → is_orderly s (Steal w indices) ≡ true → length (held w s.books.table) < 2 → ⊥
 spent-steal s w indices h low =
     let tail = drop 2 (held w s.books.table) in
-    let a = split-and (may_run w s && is_none s.plan.steal && not_empty indices && all_distinct indices) (all_among indices tail) h in
-    let b = split-and (may_run w s && is_none s.plan.steal && not_empty indices) (all_distinct indices) a.0 in
-    let filled = (split-and (may_run w s && is_none s.plan.steal) (not_empty indices) b.0).1 in
+    let a = split-and (may_run w s && is_in_order (items_named (slot_of w s.books) indices s.plan) (held w s.books.table) && is_none s.plan.steal && not_empty indices && all_distinct indices) (all_among indices tail) h in
+    let b = split-and (may_run w s && is_in_order (items_named (slot_of w s.books) indices s.plan) (held w s.books.table) && is_none s.plan.steal && not_empty indices) (all_distinct indices) a.0 in
+    let filled = (split-and (may_run w s && is_in_order (items_named (slot_of w s.books) indices s.plan) (held w s.books.table) && is_none s.plan.steal) (not_empty indices) b.0).1 in
     let none : indices ≡ [] = none_among indices tail a.1 (few-drop 2 (held w s.books.table) (omega (arith, low))) in
     differ (sym (ap not_empty none) ∙ filled)
 
@@ -114,7 +114,7 @@ none-assigned t p w items e k = subst (λ (xs : List ℕ). IsSpent (assigned w x
 spent-run_all : (s : State) (w : ℕ) → is_orderly s (RunAll w) ≡ true → Spent s → Spent (after_effect s (RunAll w))
 spent-run_all s w h k =
     let items = slot_items (slot_of w s.books) s.plan in
-    let a = split-and (is_each s.plan.mode && may_run w s) (all_among items s.books.table.pool) h in
+    let a = split-and (is_each s.plan.mode && s.books.shared && may_run w s) (all_among items s.books.table.pool) h in
     record { spent = λ u v. (let i = k.spent u v in none-assigned s.books.table s.plan w items (none_among items s.books.table.pool a.1 i.pool) i) }
 
 spent-shutdown : (s : State) (w : ℕ) → Spent s → Spent (after_effect s (Shutdown w))

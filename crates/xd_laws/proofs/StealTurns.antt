@@ -2,24 +2,25 @@
 use Rattle.std.proofs.Common.{◌≡◌, ℕ, zero, suc, ◌+◌, ◌-◌, ◌≤◌, ◌<◌, ◌/◌, List, [], ◌∷◌, ◌++◌, take, drop, length, map, Bool, true, false, not, ◌&&◌, refl, ap, sym, ◌∙◌, subst, arith, inl, inr}
 use Rattle.std.specs.Prelude.{if◌then◌else◌, ◌==◌, nat_lt, filter, Option, Some, None, is_none}
 use Rattle.std.proofs.lemmas.Bool.Decides.{nat_tests}
+use Rattle.std.proofs.lemmas.Slice.Eq.{bytes_eq-Decides}
 use Rattle.xd_journal.specs.declared.entry.Entry.TheVariants.{Steal}
 use Rattle.xd_ledger.specs.declared.seat.Seat.{Seat}
 use Rattle.xd_ledger.specs.Numbers.{among, all_distinct, all_among}
 use Rattle.xd_ledger.specs.Table.{Table, held, held_in, in_rota, workers_of}
-use Rattle.xd_ledger.specs.Plan.{Plan, UnansweredSteal}
+use Rattle.xd_ledger.specs.Plan.{Plan, UnansweredSteal, items_named, is_each}
 use Rattle.xd_ledger.specs.Turn.{Turn, give, give_front, shut_each}
 use Rattle.xd_ledger.specs.Worksteal.{idle, dealt, open_seats, most, first_with, victim, steal_count, asks, asks_or_shuts, after_dealing, rule, steal_share}
 use Rattle.xd_ledger.specs.Turn.{enough}
-use Rattle.xd_ledger.specs.Workers.{is_shut}
+use Rattle.xd_ledger.specs.Workers.{is_shut, slot_of}
 use Rattle.xd_ledger.specs.Sharing.{State}
 use Rattle.xd_ledger.specs.State.{after_entries}
-use Rattle.xd_ledger.specs.Orderly.{is_orderly, not_empty}
+use Rattle.xd_ledger.specs.Orderly.{is_in_order, is_orderly, not_empty}
 use Rattle.xd_laws.proofs.Logic.{differ, cases_of, split-and, split-or, not_true, in_both}
-use Rattle.xd_laws.proofs.Counts.{distinct-of_times, all_among-more, all_among-drops, distinct-drop}
+use Rattle.xd_laws.proofs.Counts.{among-drop, distinct-of_times, all_among-more, all_among-drops, all_among-self, distinct-drop}
 use Rattle.xd_laws.proofs.Rota.{seats_of, has_seat, is_told, one-of_seat, untold-of_seat, seat-among, seat-change, told-change}
 use Rattle.xd_laws.proofs.Places.{times-table, held-within}
 use Rattle.xd_laws.proofs.Placed.{Placed, at_most_once}
-use Rattle.xd_laws.proofs.Turns.{Good, InRota, IsPlain, in_rota-following, unshut-of, good-more, good-give_front, good-shut_each}
+use Rattle.xd_laws.proofs.Turns.{Good, InRota, IsPlain, named-plain, in_rota-following, unshut-of, good-more, good-give_front, good-shut_each}
 
 -- each worker has one seat at most
 abbrev pub OneSeat : List Seat → Type 0
@@ -141,11 +142,28 @@ number-low : (s : Seat) → (steal_count s == 0) ≡ false → (2 ≤ length s.h
 number-low s h = (grind (arith, nat_tests), grind (arith, nat_tests))
 
 orderly-steal : (m : State) (w : ℕ) (tests : List ℕ) → in_rota w m.books.table ≡ true → is_shut w m.books ≡ false → is_none m.plan.steal ≡ true → not_empty tests ≡ true
-    → all_distinct tests ≡ true → all_among tests (drop 2 (held w m.books.table)) ≡ true → is_orderly m (Steal w tests) ≡ true
-orderly-steal m w tests a b c d e f = rw (a, b, c, d, e, f)
+    → all_distinct tests ≡ true → all_among tests (drop 2 (held w m.books.table)) ≡ true → is_in_order (items_named (slot_of w m.books) tests m.plan) (held w m.books.table) ≡ true → is_orderly m (Steal w tests) ≡ true
+orderly-steal m w tests a b c d e f i = rw (a, b, c, d, e, f, i)
 
-good-asks : (s : State) (v : Seat) (t : Turn) → Good s t → t.plan.steal ≡ None → IsVictim t.table.rota v → (steal_count v == 0) ≡ false → Good s (asks v (steal_count v) t)
-good-asks s v t g none k h =
+-- the last of a list stand in its order
+
+kept-self : (xs ys : List ℕ) → all_among xs ys ≡ true → filter (λ y. among y ys) xs ≡ xs
+kept-self [] ys h = refl
+kept-self (x ∷ xs) ys h = (let p = split-and (among x ys) (all_among xs ys) h in rw p.0 (ap (λ (l : List ℕ). x ∷ l) (kept-self xs ys p.1)))
+
+last-kept : (n : ℕ) (xs : List ℕ) → all_distinct xs ≡ true → filter (λ y. among y (drop n xs)) xs ≡ drop n xs
+last-kept zero xs h = kept-self xs xs (all_among-self xs)
+last-kept (suc n) [] h = refl
+last-kept (suc n) (x ∷ xs) h =
+    let p = split-and (not (among x xs)) (all_distinct xs) h in
+    let none : among x (drop n xs) ≡ false = elim (cases_of (among x (drop n xs))) [ inl k ↦ absurd (differ (sym (not_true (among x xs) p.0) ∙ among-drop x n xs k)) | inr k ↦ k ] in
+    rw none (last-kept n xs p.1)
+
+last-in_order : (n : ℕ) (xs : List ℕ) → all_distinct xs ≡ true → is_in_order (drop n xs) xs ≡ true
+last-in_order n xs h = (bytes_eq-Decides (drop n xs) (filter (λ y. among y (drop n xs)) xs)).1 (sym (last-kept n xs h))
+
+good-asks : (s : State) (v : Seat) (t : Turn) → IsPlain s.plan.mode → Good s t → t.plan.steal ≡ None → IsVictim t.table.rota v → (steal_count v == 0) ≡ false → Good s (asks v (steal_count v) t)
+good-asks s v t plain g none k h =
     let m = after_entries s t.acts in
     let w = v.worker in
     let n = length v.held - steal_count v in
@@ -158,33 +176,34 @@ good-asks s v t g none k h =
     good-more s t (asks v (steal_count v) t) (Steal w tests) g refl refl
     (orderly-steal m w tests (in_rota-following s t w g a) (unshut-of s t w g a k.open_.untold) (ap (λ (p : Plan). is_none p.steal) g.plan ∙ ap is_none none)
     (not_empty-drop n v.held low.1) (distinct-drop n v.held distinct)
-    (ap (λ (xs : List ℕ). all_among tests (drop 2 xs)) holds ∙ all_among-drops 2 n v.held low.0))
+    (ap (λ (xs : List ℕ). all_among tests (drop 2 xs)) holds ∙ all_among-drops 2 n v.held low.0)
+    (ap (λ (xs : List ℕ). is_in_order xs (held w m.books.table)) (named-plain (slot_of w m.books) tests m.plan (ap (λ (p : Plan). is_each p.mode) g.plan ∙ ap is_each g.mode ∙ plain.each)) ∙ ap (λ (xs : List ℕ). is_in_order tests xs) holds ∙ last-in_order n v.held distinct))
     g.table (ap (λ (p : Plan). record p { steal = asked }) g.plan) refl refl
 
-good-asks_or_shuts : (s : State) (ws : List ℕ) (o : Option Seat) (t : Turn) → Good s t → all_among ws (workers_of s.books.table) ≡ true → t.plan.steal ≡ None → victim t.table ≡ o
+good-asks_or_shuts : (s : State) (ws : List ℕ) (o : Option Seat) (t : Turn) → IsPlain s.plan.mode → Good s t → all_among ws (workers_of s.books.table) ≡ true → t.plan.steal ≡ None → victim t.table ≡ o
     → Good s (asks_or_shuts ws o t)
-good-asks_or_shuts s ws None t g a none h = good-shut_each s ws t a g
-good-asks_or_shuts s ws (Some v) t g a none h =
+good-asks_or_shuts s ws None t plain g a none h = good-shut_each s ws t a g
+good-asks_or_shuts s ws (Some v) t plain g a none h =
     in_both (Good s) (steal_count v == 0) (shut_each ws t) (asks v (steal_count v) t) (λ k. good-shut_each s ws t a g)
-    (λ k. good-asks s v t g none (victim-of (most (open_seats t.table)) t.table.rota v (one_seat-turn s t g) h) k)
+    (λ k. good-asks s v t plain g none (victim-of (most (open_seats t.table)) t.table.rota v (one_seat-turn s t g) h) k)
 
-steal-by : (s : State) (ws : List ℕ) (o : Option UnansweredSteal) (t : Turn) → Good s t → all_among ws (workers_of s.books.table) ≡ true → t.plan.steal ≡ o
+steal-by : (s : State) (ws : List ℕ) (o : Option UnansweredSteal) (t : Turn) → IsPlain s.plan.mode → Good s t → all_among ws (workers_of s.books.table) ≡ true → t.plan.steal ≡ o
     → Good s (elim o as (λ _. Turn) [ None ↦ asks_or_shuts ws (victim t.table) t | Some a ↦ t ])
-steal-by s ws None t g a h = good-asks_or_shuts s ws (victim t.table) t g a h refl
-steal-by s ws (Some x) t g a h = g
+steal-by s ws None t plain g a h = good-asks_or_shuts s ws (victim t.table) t plain g a h refl
+steal-by s ws (Some x) t plain g a h = g
 
-after-by : (s : State) (ws : List ℕ) (t : Turn) → Good s t → all_among ws (workers_of s.books.table) ≡ true
+after-by : (s : State) (ws : List ℕ) (t : Turn) → IsPlain s.plan.mode → Good s t → all_among ws (workers_of s.books.table) ≡ true
     → Good s (elim ws as (λ _. Turn) [ [] ↦ t | v ∷ vs ↦ (elim t.plan.steal as (λ _. Turn) [ None ↦ asks_or_shuts (v ∷ vs) (victim t.table) t | Some a ↦ t ]) ])
-after-by s [] t g a = g
-after-by s (v ∷ vs) t g a = steal-by s (v ∷ vs) t.plan.steal t g a refl
+after-by s [] t plain g a = g
+after-by s (v ∷ vs) t plain g a = steal-by s (v ∷ vs) t.plan.steal t plain g a refl
 
-good-after_dealing : (s : State) (t : Turn) → Good s t → Good s (after_dealing t)
-good-after_dealing s t g = after-by s (idle t.table) t g (idle-rota s t g)
+good-after_dealing : (s : State) (t : Turn) → IsPlain s.plan.mode → Good s t → Good s (after_dealing t)
+good-after_dealing s t plain g = after-by s (idle t.table) t plain g (idle-rota s t g)
 
 rule-by : (s : State) (ws : List ℕ) (t : Turn) → IsPlain s.plan.mode → Good s t → ((w : ℕ) → among w ws ≡ true → IsOpen w t.table.rota)
     → Good s (elim ws as (λ _. Turn) [ [] ↦ t | v ∷ vs ↦ after_dealing (dealt (v ∷ vs) t) ])
 rule-by s [] t plain g o = g
-rule-by s (v ∷ vs) t plain g o = good-after_dealing s (dealt (v ∷ vs) t) (good-dealt s (v ∷ vs) t plain g o)
+rule-by s (v ∷ vs) t plain g o = good-after_dealing s (dealt (v ∷ vs) t) plain (good-dealt s (v ∷ vs) t plain g o)
 
 pub good-rule : (s : State) (t : Turn) → IsPlain s.plan.mode → Good s t → Good s (rule t)
 good-rule s t plain g = rule-by s (idle t.table) t plain g (λ w h. idle-open w t.table.rota (one_seat-turn s t g) h)

@@ -16,7 +16,7 @@ use Rattle.xd_ledger.specs.Sharing.{State, in_books}
 use Rattle.xd_ledger.specs.Deaths.{down_plan}
 use Rattle.xd_ledger.specs.State.{after_effect, no_one}
 use Rattle.xd_ledger.specs.Proper.{may_follow}
-use Rattle.xd_ledger.specs.Orderly.{is_orderly, may_run, not_empty}
+use Rattle.xd_ledger.specs.Orderly.{is_in_order, is_orderly, may_run, not_empty}
 use Rattle.xd_laws.specs.Called.{Reached}
 use Rattle.xd_laws.proofs.Logic.{cases_of, differ, split-and}
 use Rattle.xd_laws.proofs.Counts.{among-drop, among-times}
@@ -70,9 +70,9 @@ run-shared s w is k h =
 steal-shared : (s : State) (w : ℕ) (is : List ℕ) → Placed s → is_orderly s (Steal w is) ≡ true → s.books.shared ≡ true
 steal-shared s w is k h =
     let following = drop 2 (held w s.books.table) in
-    let a = split-and (may_run w s && is_none s.plan.steal && not_empty is && all_distinct is) (all_among is following) h in
-    let b = split-and (may_run w s && is_none s.plan.steal && not_empty is) (all_distinct is) a.0 in
-    let c = split-and (may_run w s && is_none s.plan.steal) (not_empty is) b.0 in
+    let a = split-and (may_run w s && is_in_order (items_named (slot_of w s.books) is s.plan) (held w s.books.table) && is_none s.plan.steal && not_empty is && all_distinct is) (all_among is following) h in
+    let b = split-and (may_run w s && is_in_order (items_named (slot_of w s.books) is s.plan) (held w s.books.table) && is_none s.plan.steal && not_empty is) (all_distinct is) a.0 in
+    let c = split-and (may_run w s && is_in_order (items_named (slot_of w s.books) is s.plan) (held w s.books.table) && is_none s.plan.steal) (not_empty is) b.0 in
     let one = first_among is following c.1 a.1 in
     shared-of_held s w one.0 k (among-drop one.0 2 (held w s.books.table) one.1)
 

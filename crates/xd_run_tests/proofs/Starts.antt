@@ -20,24 +20,19 @@ use Rattle.xd_run_tests.specs.declared.ask.Ask.{Ask}
 use Rattle.xd_run_tests.specs.declared.ask.Ask.TheVariants.{Tell}
 use Rattle.xd_run_tests.specs.declared.input.Input.{Input}
 use Rattle.xd_run_tests.specs.declared.input.Input.TheVariants as input
-use Rattle.xd_run_tests.specs.Line.{FunctionCall, left, front, queue, passed, running_test, head_test, has_test, is_among, can_give, can_ask, all_queued, kept, stolen_tests}
+use Rattle.xd_run_tests.specs.Line.{FunctionCall, left, front, queue, passed, running_test, head_test, has_test, is_among, can_give, can_ask, all_queued, kept, stolen_tests, tests_in_line}
 use Rattle.xd_run_tests.specs.Turns.{CallTurn, call_turn_of, answered, over, ended_early, ending_text, asking, finished, test_started, has_log, too_many_channels, moved_on, line_settled, given, stolen, stolen_if, told, item_heard_in, item_heard, all_heard, collected_in, receiving_ended_in, suite_refused_in, put_out, output_fed, told_done, done_in, done_of, call_stopped}
 use Rattle.xd_run_tests.specs.History.{Given, call_after, turn_after, started_tests, no_number_twice}
 use Rattle.xd_run_tests.specs.Stands.{once}
 use Rattle.xd_run_tests.proofs.Cut.{has_test-append}
 use Rattle.xd_run_tests.proofs.Once.{once_given, once_mark, once_kept, not_true}
 
-abbrev tests_in : List LineEntry → List ℕ
-tests_in [] = []
-tests_in (Test n ∷ ps) = n ∷ tests_in ps
-tests_in (Mark ∷ ps) = tests_in ps
+tests_in_line-append : (a b : List LineEntry) → tests_in_line (a ++ b) ≡ tests_in_line a ++ tests_in_line b
+tests_in_line-append [] b = refl
+tests_in_line-append (Test n ∷ a) b = ap (λ (l : List ℕ). n ∷ l) (tests_in_line-append a b)
+tests_in_line-append (Mark ∷ a) b = tests_in_line-append a b
 
-tests_in-append : (a b : List LineEntry) → tests_in (a ++ b) ≡ tests_in a ++ tests_in b
-tests_in-append [] b = refl
-tests_in-append (Test n ∷ a) b = ap (λ (l : List ℕ). n ∷ l) (tests_in-append a b)
-tests_in-append (Mark ∷ a) b = tests_in-append a b
-
-among_is : (n : ℕ) (l : List LineEntry) → is_among n (tests_in l) ≡ has_test n l
+among_is : (n : ℕ) (l : List LineEntry) → is_among n (tests_in_line l) ≡ has_test n l
 among_is n [] = refl
 among_is n (Test m ∷ l) = ap (λ (v : Bool). (m == n) || v) (among_is n l)
 among_is n (Mark ∷ l) = among_is n l
@@ -57,9 +52,9 @@ neither : (a b : Bool) → (a || b) ≡ false → a ≡ false
 neither true b e = e
 neither false b e = refl
 
-distinct_of : (l : List LineEntry) → once l ≡ true → no_number_twice (tests_in l) ≡ true
+distinct_of : (l : List LineEntry) → once l ≡ true → no_number_twice (tests_in_line l) ≡ true
 distinct_of [] h = refl
-distinct_of (Test m ∷ l) h = both (not (is_among m (tests_in l))) (no_number_twice (tests_in l)) (ap not (among_is m l) ∙ first (not (has_test m l)) (once l) h) (distinct_of l (last (not (has_test m l)) (once l) h))
+distinct_of (Test m ∷ l) h = both (not (is_among m (tests_in_line l))) (no_number_twice (tests_in_line l)) (ap not (among_is m l) ∙ first (not (has_test m l)) (once l) h) (distinct_of l (last (not (has_test m l)) (once l) h))
 distinct_of (Mark ∷ l) h = distinct_of l h
 
 once_first : (a b : List LineEntry) → once (a ++ b) ≡ true → once a ≡ true
@@ -70,7 +65,7 @@ once_first (Test m ∷ a) b h =
 once_first (Mark ∷ a) b h = once_first a b h
 
 -- n places of the line are gone through
-abbrev gone_by : FunctionCall → ℕ
+abbrev pub gone_by : FunctionCall → ℕ
 gone_by c = c.ended + (if c.running then 1 else 0)
 
 -- the tests that were started, those of a turn after these, are those that are gone through
@@ -79,7 +74,7 @@ record Begun (s : List ℕ) (t : CallTurn) : Type 0 where
   rest : List LineEntry
   line_is : t.call.line ≡ gone ++ rest
   count : length gone ≡ gone_by t.call
-  starts : s ++ option_to_list t.run ≡ tests_in gone
+  starts : s ++ option_to_list t.run ≡ tests_in_line gone
   once_is : once t.call.line ≡ true
   idle : t.call.running ≡ false → t.run ≡ None
   awaits : t.call.phase ≡ Awaiting → (t.call.line ≡ []) × (t.call.running ≡ false)
@@ -132,7 +127,7 @@ started_begun s t n l idle is serves b = record {
   rest = l;
   line_is = b.line_is ∙ ap (λ (x : List LineEntry). b.gone ++ x) (sym (left_rest s t b idle) ∙ is) ∙ sym (append_assoc b.gone (Test n ∷ []) l);
   count = longer b.gone (Test n) t.call.ended (b.count ∙ none t.call.ended t.call.running idle);
-  starts = more s t.run b.gone n (b.idle idle) b.starts ∙ sym (tests_in-append b.gone (Test n ∷ []));
+  starts = more s t.run b.gone n (b.idle idle) b.starts ∙ sym (tests_in_line-append b.gone (Test n ∷ []));
   once_is = b.once_is;
   idle = λ e. cc;
   awaits = λ e. absurd (serves e);
@@ -144,7 +139,7 @@ started_begun s t n l idle is serves b = record {
     none : (a : ℕ) (x : Bool) → x ≡ false → a + (if x then 1 else 0) ≡ a
     none a x e = rw e (omega arith)
 
-    more : (s : List ℕ) (r : Option ℕ) (gone : List LineEntry) (n : ℕ) → r ≡ None → s ++ option_to_list r ≡ tests_in gone → s ++ n ∷ [] ≡ tests_in gone ++ n ∷ []
+    more : (s : List ℕ) (r : Option ℕ) (gone : List LineEntry) (n : ℕ) → r ≡ None → s ++ option_to_list r ≡ tests_in_line gone → s ++ n ∷ [] ≡ tests_in_line gone ++ n ∷ []
     more s r gone n e h = ap (λ (l : List ℕ). l ++ n ∷ []) (sym (no_more s) ∙ ap (λ (o : Option ℕ). s ++ option_to_list o) (sym e) ∙ h)
       where
         no_more : (a : List ℕ) → a ++ [] ≡ a
@@ -246,7 +241,7 @@ collected_begun s Awaiting room ids t e b =
       rest = [];
       line_is = refl;
       count = refl;
-      starts = b.starts ∙ ap tests_in (nothing b.gone b.rest (sym b.line_is ∙ none.0));
+      starts = b.starts ∙ ap tests_in_line (nothing b.gone b.rest (sym b.line_is ∙ none.0));
       once_is = refl;
       idle = λ z. b.idle none.1;
       awaits = λ z. cc;
@@ -355,3 +350,18 @@ starts_once h =
   where
     no_more : (a : List ℕ) → a ++ [] ≡ a
     no_more a = grind (arith, common_steps)
+
+-- the tests that were started are the first of the line
+pub started_first : (h : List Given) → started_tests h ≡ tests_in_line (take (gone_by (call_after h)) (call_after h).line)
+started_first h =
+    let b = begun_after h in
+    sym (no_more (started_tests h)) ∙ b.starts ∙ ap tests_in_line (sym (cut b.gone b.rest (call_after h).line (gone_by (call_after h)) b.line_is b.count))
+  where
+    no_more : (a : List ℕ) → a ++ [] ≡ a
+    no_more a = grind (arith, common_steps)
+
+    front_of : (a c : List LineEntry) → take (length a) (a ++ c) ≡ a
+    front_of a c = grind (arith, common_steps)
+
+    cut : (gone rest line : List LineEntry) (n : ℕ) → line ≡ gone ++ rest → length gone ≡ n → take n line ≡ gone
+    cut gone rest line n e h = ap (take n) e ∙ ap (λ (k : ℕ). take k (gone ++ rest)) (sym h) ∙ front_of gone rest

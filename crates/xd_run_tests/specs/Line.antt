@@ -62,6 +62,12 @@ has_test n [] = false
 has_test n (Test m ∷ ps) = (m == n) || has_test n ps
 has_test n (Mark ∷ ps) = has_test n ps
 
+-- the tests among these entries, in order, without the marks
+abbrev pub tests_in_line : List LineEntry → List ℕ
+tests_in_line [] = []
+tests_in_line (Test n ∷ ps) = n ∷ tests_in_line ps
+tests_in_line (Mark ∷ ps) = tests_in_line ps
+
 -- a number stands among these
 abbrev pub is_among : ℕ → List ℕ → Bool
 is_among n [] = false
