@@ -36,6 +36,7 @@ class Settings:
     chunk: Optional[int] = None
     reorder: bool = True
     retries: int = 0  # of a test at which a worker is lost
+    calls: Optional[int] = None  # of its mode, which then runs out of memory
 
 
 @dataclass
@@ -76,6 +77,7 @@ class Run:
     kept: int = 0
     stop: Optional[tuple] = None
     marked: bool = False  # nothing is left to hand out
+    calls: int = 0  # of the mode so far
 
     # Who is there.
 
@@ -273,6 +275,10 @@ def units_of(settings, ids):
     return sorted(units, key=lambda unit: -len(unit)) if settings.reorder else units
 
 
+class OutOfMemory(Exception):
+    """A mode ran out of memory, with which its run ends."""
+
+
 class Rule:
     """Puts outputs at the end of a journal, one by one."""
 
@@ -457,6 +463,14 @@ def begin(settings):
     return run
 
 
+def ask(run, call, *words):
+    """A call of the mode: the share, a worker that joined or died, a test that is done, or tests that came back."""
+    if run.calls == run.settings.calls:
+        raise OutOfMemory
+    run.calls += 1
+    call(*words)
+
+
 def step(run, entry):
     """Puts what a worker said at the end of the journal, and what follows it after that."""
     kind, w, *rest = entry
@@ -475,16 +489,16 @@ def step(run, entry):
             rule.shut(w)
     elif kind == "Collected":
         if not was_shut and was_shared:
-            rule.joined(w)
+            ask(run, rule.joined, w)
         elif not was_shut and run.is_shared:
-            rule.share()
+            ask(run, rule.share)
     elif kind == "Done":
-        rule.done(w, rest[2])
+        ask(run, rule.done, w, rest[2])
     elif kind == "Back":
-        rule.back(w)
+        ask(run, rule.back, w)
     elif kind in ("Down", "NotStarted"):
         if run.is_shared:
-            rule.died()
+            ask(run, rule.died)
         rule.say("Start", len(run.slot), run.slot[w])
     if run.mark():
         rule.shut_all()

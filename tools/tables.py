@@ -199,7 +199,7 @@ def kills_of_started(calls, entries):
 
 
 def drive(settings, news, fails):
-    """The calls of the hub, the journal, the status and the text."""
+    """The calls of the hub, the journal, the status and the text; neither journal nor status where memory ran out."""
     run, report, out = model.begin(settings), model.Report(settings), Output(fails)
     calls, done = performed(run.entries), len(run.entries)
     report.lines(run.entries)
@@ -207,7 +207,10 @@ def drive(settings, news, fails):
     while not run.is_over() and not out.failed:
         worker, what = next(hub)
         if run.is_active(worker):
-            model.take(run, worker, what)
+            try:
+                model.take(run, worker, what)
+            except model.OutOfMemory:
+                return calls, None, "-", out.taken
             if out.prints(report.lines(run.entries[done:])):
                 calls += performed(run.entries[done:])
                 done = len(run.entries)
@@ -223,8 +226,9 @@ def settings_of(words):
     workers, maxfail, restarts, chunk, fails, *how = words.split(",")
     mode = how[0] if how else "load"
     chunk = None if chunk == "-" else int(chunk)
-    retries = next((int(word[1:]) for word in how[1:] if word[0] == "r"), 0)
-    settings = model.Settings(mode, int(workers), int(maxfail), int(restarts), chunk, "kept" not in how, retries)
+    retries, calls = (next((int(word[1:]) for word in how[1:] if word[0] == letter), None) for letter in "rc")
+    reorder = "kept" not in how
+    settings = model.Settings(mode, int(workers), int(maxfail), int(restarts), chunk, reorder, retries or 0, calls)
     return settings, None if fails == "-" else int(fails)
 
 
@@ -234,7 +238,8 @@ def line_of(fields, with_calls):
     settings, fails = settings_of(words)
     calls, entries, status, text = drive(settings, all_news(news), fails)
     told = [show_all(calls)] if with_calls else []
-    return BAR.join([title, words, news, *told, show_all(entries), str(status), show_bytes(text)])
+    journal = show_all(entries) if entries else "-"
+    return BAR.join([title, words, news, *told, journal, str(status), show_bytes(text)])
 
 
 def runs_in(path, with_calls):

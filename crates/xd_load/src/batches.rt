@@ -15,12 +15,18 @@ use xd_ledger::{ENOUGH, Ledger, give_front, shut, shut_rota};
 // A test that took that many milliseconds, or more, is slow.
 const SLOW_MS: u64 = 100;
 
+// A worker is refilled below this part of its even share of the pool.
+const LOW_PART: u32 = 4;
+
+// And up to this part.
+const HIGH_PART: u32 = 2;
+
 // How many more tests a worker gets.
 fn more_of(pool: u32, workers: u32, chunk: u32, holds: u32) -> u32
     requires { 0 < workers }
     ensures { result ≡ more pool workers chunk holds }
 {
-    let high = (pool / workers / 2).max(ENOUGH);
+    let high = (pool / workers / HIGH_PART).max(ENOUGH);
     let least = ENOUGH.saturating_sub(holds).max(chunk);
     high.saturating_sub(holds).min(least)
 }
@@ -30,7 +36,7 @@ fn due(pool: u32, workers: u32, holds: u32, ms: u64) -> bool
     requires { 0 < workers }
     ensures { result ≡ is_due pool workers holds ms }
 {
-    let low = (pool / workers / 4).max(ENOUGH);
+    let low = (pool / workers / LOW_PART).max(ENOUGH);
     holds < low && !(ms >= SLOW_MS && holds >= ENOUGH)
 }
 
@@ -131,7 +137,7 @@ fn share_out(
 {
     let tests = ledger.pool_len() as u64;
     let workers = ledger.rota_len() as u64;
-    if tests < 2 * workers {
+    if tests < ENOUGH as u64 * workers {
         give_each(alloc, 1, ledger, acts)?;
         give_each(alloc, 1, ledger, acts)?;
         return Ok(());
@@ -139,7 +145,9 @@ fn share_out(
     if workers == 0 {
         return Ok(());
     }
-    let count = (tests / workers / 4).min(chunk as u64).max(2);
+    let count = (tests / workers / LOW_PART as u64)
+        .min(chunk as u64)
+        .max(ENOUGH as u64);
     give_each(alloc, count as u32, ledger, acts)?;
     Ok(())
 }

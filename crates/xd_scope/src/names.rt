@@ -44,8 +44,9 @@ pub fn scope_of(kind: ModeKind, id: &str) -> &str
     ensures { chars result.now ≡ scope_of kind (chars id.now) }
 {
     match kind {
+        ModeKind::LoadScope => before_last(id),
         ModeKind::LoadFile => before_first(id),
         ModeKind::LoadGroup => group(id),
-        _ => before_last(id),
+        ModeKind::Local | ModeKind::Each | ModeKind::Load | ModeKind::WorkSteal => unreachable!(),
     }
 }

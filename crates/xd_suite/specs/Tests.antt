@@ -3,7 +3,7 @@ use Rattle.std.specs.Prelude.{ℕ, List, [], ◌∷◌, ◌++◌, map, slice_ind
 use Rattle.std.specs.Str.{chars}
 use Rattle.toml.specs.Data.{Data, table, Items, no_items, item, Members, no_members, get_member, as_str, as_array}
 use Rattle.xd_edge.specs.declared.mode.ModeKind.{ModeKind}
-use Rattle.xd_edge.specs.declared.mode.ModeKind.TheVariants.{LoadGroup}
+use Rattle.xd_edge.specs.declared.mode.ModeKind.TheVariants.{Local, Each, Load, LoadScope, LoadFile, LoadGroup, WorkSteal}
 use Rattle.xd_suite.specs.declared.test.Test.{Test}
 
 -- the text that stands under a key, if one does
@@ -55,7 +55,12 @@ group_id t = with_group t.id t.group
 -- Example: a test `a` of the group `g` is `a@g` in loadgroup and `a` elsewhere.
 abbrev pub id_by_mode : ModeKind → Test → List ℕ
 id_by_mode LoadGroup t = group_id t
-id_by_mode _ t = t.id
+id_by_mode Local t = t.id
+id_by_mode Each t = t.id
+id_by_mode Load t = t.id
+id_by_mode LoadScope t = t.id
+id_by_mode LoadFile t = t.id
+id_by_mode WorkSteal t = t.id
 
 -- the ids of tests in a mode, in order
 abbrev pub ids_by_mode : ModeKind → List Test → List (List ℕ)

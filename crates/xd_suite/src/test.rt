@@ -29,7 +29,12 @@ fn id_in(alloc: Global, test: &Test, mode: ModeKind) -> Result<Text, OutOfMemory
 {
     match mode {
         ModeKind::LoadGroup => group_id(alloc, test),
-        _ => test.id.copy(),
+        ModeKind::Local
+        | ModeKind::Each
+        | ModeKind::Load
+        | ModeKind::LoadScope
+        | ModeKind::LoadFile
+        | ModeKind::WorkSteal => test.id.copy(),
     }
 }
 

@@ -4,9 +4,9 @@ mod drawn_groups_and_steals;
 mod drawn_load_and_each;
 mod drawn_scopes;
 mod failing_outputs;
+mod limited;
 mod other_breaches;
 mod other_modes;
-mod own_load;
 mod random_runs;
 mod retried_modes;
 mod retried_runs;
@@ -14,7 +14,7 @@ mod script;
 mod worked_modes;
 mod worked_runs;
 
-use script::{LoadBy, run_of};
+use script::run_of;
 use std::alloc::Global;
 use std::process::Abort;
 use std::sync::Wait;
@@ -24,25 +24,16 @@ fn next_field(words: &str) -> Result<(&str, &str), Fail> {
     Ok(words.split_once(" ~ ").ok_or("one more field")?)
 }
 
-// Each run of a table has its journal, its status and its text, those in mode load by this one.
-fn expect_runs_by<R: Wait + Abort>(
-    rt: &R,
-    alloc: Global,
-    load_by: LoadBy,
-    runs: &str,
-) -> Result<(), Fail> {
+// Each run of a table has its journal, its status and its text.
+fn expect_runs<R: Wait + Abort>(rt: &R, alloc: Global, runs: &str) -> Result<(), Fail> {
     for line in runs.lines() {
         let (name, line) = next_field(line)?;
         let (settings, line) = next_field(line)?;
         let (news, wanted) = next_field(line)?;
-        let found = run_of(rt, alloc, load_by, settings, news)?;
+        let found = run_of(rt, alloc, settings, news)?;
         assert_eq!(rt; found.rest.as_str(), wanted, "{name}");
     }
     Ok(())
-}
-
-fn expect_runs<R: Wait + Abort>(rt: &R, alloc: Global, runs: &str) -> Result<(), Fail> {
-    expect_runs_by(rt, alloc, LoadBy::Library, runs)
 }
 
 #[test]
@@ -79,21 +70,13 @@ fn runs_in_which_crashed_tests_are_tried_again_are_those_of_the_model(
 }
 
 #[test]
-fn runs_in_a_mode_load_of_the_tests_own_are_the_same(rt: HostRuntime) -> Result<(), Fail> {
-    expect_runs_by(&rt, rt.alloc(), LoadBy::Tests, worked_runs::runs())?;
-    expect_runs_by(&rt, rt.alloc(), LoadBy::Tests, random_runs::runs())?;
-    expect_runs_by(&rt, rt.alloc(), LoadBy::Tests, drawn_load_and_each::runs())?;
-    expect_runs_by(&rt, rt.alloc(), LoadBy::Tests, retried_runs::runs())
-}
-
-#[test]
 fn after_a_failing_output_only_kills_are_asked_for(rt: HostRuntime) -> Result<(), Fail> {
     let alloc = rt.alloc();
     for line in failing_outputs::runs().lines() {
         let (name, line) = next_field(line)?;
         let (settings, line) = next_field(line)?;
         let (news, wanted) = next_field(line)?;
-        let found = run_of(&rt, alloc, LoadBy::Library, settings, news)?;
+        let found = run_of(&rt, alloc, settings, news)?;
         let all = format!(in alloc; "{}~ {}", found.calls, found.rest)?;
         assert_eq!(rt; all.as_str(), wanted, "{name}");
     }

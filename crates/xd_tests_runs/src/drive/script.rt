@@ -3,21 +3,22 @@
 // A table has a line for each run, its fields parted by ` ~ `: a name, the settings, the news, the journal, the status and
 // the text. The settings are the workers, the failures that stop the run or 0, the restarts, the chunk or -, and which call
 // of the output fails, counted from 0, or -; then the mode, where more follows or it is not load, `kept` where scopes keep
-// their order, and, as `r2`, how often a crashed test is tried again.
+// their order, as `r2` how often a crashed test is tried again, and, in worksteal, as `c9` after how many of its calls the
+// mode runs out of memory, with which the run ends: it has - for the journal and the status, and the text so far.
 // News and entries are those of `words`; in the text, too, more than eight of one character are written x*9, and / is a
 // newline.
 ghost use Rattle.std.specs.Prelude.{◌≡◌, IfOk};
-ghost use Rattle.xd_edge.specs.declared.mode.ModeKind.TheVariants.{Load as InModeLoad};
+ghost use Rattle.xd_edge.specs.declared.mode.ModeKind.TheVariants.{WorkSteal};
 ghost use Rattle.xd_ledger.specs.State.{no_one};
 ghost use Rattle.xd_session.specs.Stands.{CanBegin};
 
-use crate::drive::own_load::OwnLoad;
+use crate::drive::limited::Limited;
 use crate::words::{news_of, number, show_bytes, show_entries};
 use std::alloc::Global;
 use std::sync::Wait;
 use std::test::Fail;
 use xd_drive::{DrivenRun, ListedHub, drive};
-use xd_edge::{Indices, ModeKind};
+use xd_edge::{Indices, ModeKind, OutOfMemory};
 use xd_journal::Settings;
 use xd_ledger::Mode;
 use xd_load::{Each, Load};
@@ -38,16 +39,14 @@ fn mode_of(word: Option<&str>) -> ModeKind {
     }
 }
 
-// Whether scopes are handed out largest first, and how often a crashed test is tried again.
-fn how_of(words: &str) -> Result<(bool, u32), Fail> {
-    let (mut reorder, mut retries) = (true, 0);
+// The number after this letter, of the words after the mode.
+fn number_after(words: &str, letter: char) -> Result<Option<u32>, Fail> {
     for word in words.split(',').skip(6) {
-        match word.strip_prefix('r') {
-            Some(count) => retries = number(count)?,
-            None => reorder = false,
+        if let Some(count) = word.strip_prefix(letter) {
+            return Ok(Some(number(count)?));
         }
     }
-    Ok((reorder, retries))
+    Ok(None)
 }
 
 fn settings_of(words: &str) -> Result<Settings, Fail>
@@ -59,7 +58,7 @@ fn settings_of(words: &str) -> Result<Settings, Fail>
     let restarts = number(fields.next().ok_or("the restarts")?)?;
     let chunk = fields.next().ok_or("the chunk")?.parse::<u32>().ok();
     let mode = mode_of(fields.nth(1));
-    let (reorder, retries) = how_of(words)?;
+    let retries = number_after(words, 'r')?.unwrap_or(0);
     if workers < 1 || workers > 32 || restarts > 1000 || mode == ModeKind::Local {
         return Err(Fail::from("settings within their limits"));
     }
@@ -69,7 +68,7 @@ fn settings_of(words: &str) -> Result<Settings, Fail>
         maxfail,
         restarts,
         chunk,
-        reorder,
+        reorder: !words.contains("kept"),
         retries,
     })
 }
@@ -85,13 +84,6 @@ fn output_that_fails(alloc: Global, words: &str) -> Result<MemSink, Fail> {
     Ok(out)
 }
 
-/// Whose mode load a run is in: the library's, or one of the tests' own.
-#[derive(Clone, Copy)]
-pub enum LoadBy {
-    Library,
-    Tests,
-}
-
 /// What a run came to: the calls that its hub took; and its journal, its status and its text. In words.
 #[derive(Drop)]
 pub struct Ran {
@@ -99,22 +91,25 @@ pub struct Ran {
     pub rest: String,
 }
 
-fn rest_of(alloc: Global, run: &DrivenRun, out: &MemSink) -> Result<String, Fail> {
+fn rest_of(
+    alloc: Global,
+    run: &Result<DrivenRun, OutOfMemory>,
+    out: &MemSink,
+) -> Result<String, Fail> {
     let mut text = String::new(alloc);
-    show_entries(alloc, &mut text, &run.journal.entries)?;
-    write!(text, "~ {} ~ ", run.status)?;
+    match run {
+        Ok(run) => {
+            show_entries(alloc, &mut text, &run.journal.entries)?;
+            write!(text, "~ {} ~ ", run.status)?;
+        }
+        Err(OutOfMemory) => text.push_str("- ~ - ~ ")?,
+    }
     show_bytes(&mut text, out.bytes.as_slice())?;
     Ok(text)
 }
 
 /// What the run with these settings and news comes to.
-pub fn run_of<R: Wait>(
-    rt: &R,
-    alloc: Global,
-    load_by: LoadBy,
-    words: &str,
-    news: &str,
-) -> Result<Ran, Fail> {
+pub fn run_of<R: Wait>(rt: &R, alloc: Global, words: &str, news: &str) -> Result<Ran, Fail> {
     let settings = settings_of(words)?;
     let kind = settings.mode;
     match kind {
@@ -123,31 +118,27 @@ pub fn run_of<R: Wait>(
             let mode = Scope::new(alloc, kind, settings.reorder);
             run_in(rt, alloc, settings, mode, words, news)
         }
-        ModeKind::WorkSteal => run_in(rt, alloc, settings, Steal::new(), words, news),
-        ModeKind::Load => run_load(rt, alloc, load_by, settings, words, news),
+        ModeKind::WorkSteal => run_steal(rt, alloc, settings, words, news),
+        ModeKind::Load => run_in(rt, alloc, settings, Load::new(settings.chunk), words, news),
         ModeKind::Local => Err(Fail::from("a mode with workers")),
     }
 }
 
-// The same in mode load.
-fn run_load<R: Wait>(
+// The same in mode worksteal, which may run out of memory.
+fn run_steal<R: Wait>(
     rt: &R,
     alloc: Global,
-    load_by: LoadBy,
     settings: Settings,
     words: &str,
     news: &str,
 ) -> Result<Ran, Fail>
     requires begins { CanBegin settings }
-    requires load { settings.mode ≡ InModeLoad }
+    requires steal { settings.mode ≡ WorkSteal }
 {
-    match load_by {
-        LoadBy::Library => {
-            let mode = Load::new(settings.chunk);
-            run_in(rt, alloc, settings, mode, words, news)
-        }
-        LoadBy::Tests => {
-            let mode = OwnLoad::new(settings.chunk);
+    match number_after(words, 'c')? {
+        None => run_in(rt, alloc, settings, Steal::new(), words, news),
+        Some(calls) => {
+            let mode = Limited::new(Steal::new(), calls);
             run_in(rt, alloc, settings, mode, words, news)
         }
     }
@@ -172,7 +163,7 @@ fn run_in<R: Wait, M: Mode>(
     let mut hub = ListedHub::new(alloc, news_of(alloc, news)?, refused);
     let mut out = output_that_fails(alloc, words)?;
     let mut moments = Log::new(alloc)?;
-    let run = drive(rt, alloc, session, &mut hub, &mut out, &mut moments)?;
+    let run = drive(rt, alloc, session, &mut hub, &mut out, &mut moments);
     let mut calls = String::new(alloc);
     show_entries(alloc, &mut calls, &hub.calls)?;
     let rest = rest_of(alloc, &run, &out)?;
