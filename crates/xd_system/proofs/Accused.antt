@@ -305,7 +305,7 @@ module _ (settings : Settings) (taken : List News) (w : ℕ) (l : LinkNow) (prop
         ap (λ (o : Option Entry). is_accused w (entry_of o)) (input-is ∙ ap (meaning_of w (log_of said) (spent_by r.entries) r.state) e)
         ∙ ap (λ (b : Bool). is_accused w (entry_of (if b then Some (NotStarted w) else Some (breach w (log_of said) (spent_by r.entries) r.state)))) may
 
-    fine : is_accused w (entry_of (input_of r n)) ≡ false
+    pub fine : is_accused w (entry_of (input_of r n)) ≡ false
     fine = elim (took-cases l.whole (said_by w taken) (told_so_far l) h.news) [
       | inl b ↦ told-fine (said_by w post ++ b.0) (b.1 ∙ ap (λ (z : List What). z ++ b.0) said-all ∙ append_assoc said (x ∷ said_by w post) b.0)
       | inr (inl c) ↦ cut c

@@ -14,6 +14,7 @@ use Rattle.xd_ledger.specs.Proper.{IsProper}
 use Rattle.xd_ledger.specs.Reports.{Report, Result, Crash, item_of, reports}
 use Rattle.xd_ledger.specs.Sharing.{State}
 use Rattle.xd_ledger.specs.Stops.{is_stopped}
+use Rattle.xd_ledger.specs.State.{no_one}
 use Rattle.xd_ledger.specs.Workers.{has_member, slot_of}
 use Rattle.xd_laws.specs.Stopped.{is_death}
 use Rattle.xd_laws.proofs.Laws.{reported_once}
@@ -24,6 +25,7 @@ use Rattle.xd_system.specs.Laws.{RanOnce, ReportsItsTests, RunsEachOnce, is_repo
 use Rattle.xd_system.specs.Moment.{IsHonestAt, LinkNow}
 use Rattle.xd_system.specs.Tells.{outcomes}
 use Rattle.xd_system.proofs.Once.{reports_its_tests}
+use Rattle.xd_system.proofs.NoCrash.{no-crashes}
 use Rattle.xd_system.proofs.Results.{Reported, keeps_reported, reported-none, results}
 use Rattle.xd_system.proofs.Walks.{at-run}
 
@@ -135,7 +137,7 @@ module _ (settings : Settings) (taken : List News) (links : ℕ → LinkNow) (pr
       → filter (is_report_of w) (reports settings (run_of settings taken).entries) ≡ []
   unstarted w none =
       let reported = at-run settings r (Reported settings w) (keeps_reported settings w) sound (reported-none settings w) in
-      reported.reports_are alive ∙ ap (results w r.state) (reported.unstarted none)
+      no-crashes w (no_one settings) r.entries alive ∙ reported.results_are ∙ ap (results w r.state) (reported.unstarted none)
 
   module _ (x : ℕ) (low : x < total (run_of settings taken).state.plan) where
     one : (q : Report) × (filter (λ q. x == item_of q) (reports settings (run_of settings taken).entries) ≡ q ∷ [])

@@ -42,9 +42,12 @@ pub mod Rows
 pub mod Wrong
 pub mod Acts
 pub mod Results
+pub mod NoCrash
 pub mod Dones
+pub mod Outcomes
 pub mod Finishes
 pub mod Once
+pub mod Deaths
 pub mod Items
 pub mod Suites
 pub mod Shipped

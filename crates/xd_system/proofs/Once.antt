@@ -20,7 +20,7 @@ use Rattle.xd_ledger.specs.Meaning.{log_of, meaning_of, spent_by}
 use Rattle.xd_ledger.specs.Outputs.{outputs}
 use Rattle.xd_ledger.specs.Proper.{IsProper, may_follow}
 use Rattle.xd_ledger.specs.Sharing.{State}
-use Rattle.xd_ledger.specs.State.{after_effect}
+use Rattle.xd_ledger.specs.State.{after_effect, no_one}
 use Rattle.xd_ledger.specs.Stops.{is_shutting, is_stopped}
 use Rattle.xd_ledger.specs.Table.{held, in_rota}
 use Rattle.xd_ledger.specs.Workers.{has_collected, has_member, is_active, is_shut, made_gone, some_active}
@@ -39,9 +39,11 @@ use Rattle.xd_system.proofs.Accused.{at-last, entries-fold, honest-next, took-ca
 use Rattle.xd_system.proofs.Acts.{Acts, acts-none, is_end_of, is_refusal, keeps_acts}
 use Rattle.xd_system.proofs.Call.{is_last_told}
 use Rattle.xd_system.proofs.Deal.{size_at}
-use Rattle.xd_system.proofs.Dones.{ended-dones, started-ended, told-dones}
+use Rattle.xd_system.proofs.Dones.{ended-dones, started-ended}
 use Rattle.xd_system.proofs.Echo.{Echo, entry_of}
 use Rattle.xd_system.proofs.Placed.{Called, deal-now, echo-now, joined-call, marks-now, quiet-call}
+use Rattle.xd_system.proofs.NoCrash.{no-crashes}
+use Rattle.xd_system.proofs.Outcomes.{told-outcomes}
 use Rattle.xd_system.proofs.Results.{Reported, keeps_reported, reported-none, results}
 use Rattle.xd_system.proofs.Runs.{HonestSoFar, added, entries-added, input-own, honest-begun, state-after}
 use Rattle.xd_system.proofs.Silent.{Silent, keeps_silent}
@@ -330,12 +332,12 @@ module _ (settings : Settings) (taken : List News) (w : ℕ) (l : LinkNow) (prop
         let c = called in
         let d = done c.0 c.1.call in
         let T = tells l.given in
-        let outcomes_are : outcomes_in T ≡ outcomes l.given = told-dones c.0 l.given h.comes c.1.calls in
+        let outcomes_are : outcomes_in T ≡ outcomes l.given = told-outcomes l.given h.comes in
         let dones_are : outcomes_in T ≡ outcomes_in said = ap outcomes_in (whole c.0 d)
         ∙ filter_map-append outcome_of_news said (what.Finished ∷ []) ∙ append-nil (outcomes_in said) in
         let reported = at-run settings (run_of settings taken) (Reported settings w) (keeps_reported settings w) (sound-run settings taken proper) (reported-none settings w) in
         record {
-          reports_are = reported.reports_are alive
+          reports_are = no-crashes w (no_one settings) (run_of settings taken).entries alive ∙ reported.results_are
               ∙ ap (results w (run_of settings taken).state) (silent.dones ∙ sym echo.dones ∙ sym dones_are ∙ outcomes_are);
           each_ended = ap (map (λ (p : ℕ × Outcome). p.0)) (sym outcomes_are) ∙ ended-dones T
               ∙ sym (started-ended c.0 l.given d);

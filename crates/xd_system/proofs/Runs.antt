@@ -102,7 +102,7 @@ module _ (settings : Settings) (r : SoFar) (n : News) (sound : IsProperRun setti
   meant true e h = other-echo w n.worker (log_of (said_by n.worker r.taken)) (spent_by r.entries) r.state n.what h
   meant false e h = echo-none w
 
-  added-other : (n.worker == w) ≡ false → Echo w (added r (input_of r n)) []
+  pub added-other : (n.worker == w) ≡ false → Echo w (added r (input_of r n)) []
   added-other h = echo-added (input_of r n) [] refl (meant (is_active n.worker r.state.books) refl h)
 
   taken-more : said_by w r2.taken ≡ said_by w r.taken ++ said_by w (n ∷ [])
@@ -142,13 +142,13 @@ module _ (settings : Settings) (r : SoFar) (n : News) (sound : IsProperRun setti
       ap (λ (v : ℕ). meaning v r.entries r.state (said_by v r.taken) n.what) e
       ∙ ap (λ (b : Bool). if b then meaning_of w (log_of (said_by w r.taken)) (spent_by r.entries) r.state n.what else None) a
 
-  input-gone : (n.worker == w) ≡ true → is_active w r.state.books ≡ false → input_of r n ≡ None
+  pub input-gone : (n.worker == w) ≡ true → is_active w r.state.books ≡ false → input_of r n ≡ None
   input-gone h a =
       let e : n.worker ≡ w = grind (arith, nat_tests, h) in
       ap (λ (v : ℕ). meaning v r.entries r.state (said_by v r.taken) n.what) e
       ∙ ap (λ (b : Bool). if b then meaning_of w (log_of (said_by w r.taken)) (spent_by r.entries) r.state n.what else None) a
 
-  own-added : (n.worker == w) ≡ true → is_active w r.state.books ≡ true
+  pub own-added : (n.worker == w) ≡ true → is_active w r.state.books ≡ true
       → is_accused w (entry_of (input_of r n)) ≡ false → Echo w (added r (input_of r n)) (n.what ∷ [])
   own-added h a fine =
       let is = input-own h a in

@@ -6,3 +6,4 @@ pub mod Fits
 pub mod Moment
 pub mod Laws
 pub mod Steps
+pub mod Deaths

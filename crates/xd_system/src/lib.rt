@@ -3,6 +3,7 @@
 #![tactic(auto)]
 
 ghost use Rattle.xd_journal.specs.declared.journal.Journal.{Journal};
+ghost use Rattle.xd_system.specs.Deaths.{LeftTrue};
 ghost use Rattle.xd_system.specs.Journals.{IsProperJournal, TellsInOrder};
 ghost use Rattle.xd_system.specs.Laws.{EachInItsPlace, NeverAccused, RunsEachOnce, SomethingMoves};
 ghost use Rattle.xd_system.specs.Steps.{ShippedAreHonest};
@@ -41,4 +42,10 @@ pub fn once_law()
 /// which these laws speak.
 pub fn shipped_law()
     ensures { ShippedAreHonest }
+{}
+
+/// Whatever dies and whatever is tried again: an honest worker starts no test twice, and its results are how programs
+/// that it started ended, in order; a crash is of the first test that its worker held, which no other worker held then.
+pub fn deaths_law()
+    ensures { LeftTrue }
 {}
