@@ -1,7 +1,7 @@
 """Messages as the real execnet writes them, by the value and by the call."""
 import struct
 
-GATEWAY_TERMINATE, CHANNEL_EXEC, CHANNEL_DATA, CHANNEL_CLOSE, CHANNEL_CLOSE_ERROR, CHANNEL_LAST = 2, 3, 4, 5, 6, 7
+RECONFIGURE, GATEWAY_TERMINATE, CHANNEL_EXEC, CHANNEL_DATA, CHANNEL_CLOSE, CHANNEL_CLOSE_ERROR, CHANNEL_LAST = range(1, 8)
 
 
 def text(word):

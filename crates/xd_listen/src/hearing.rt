@@ -80,10 +80,11 @@ impl<N: Sink> Server<N> {
             (seen N.sunk N.faults self.old) →
             OnOk result (ServesSoFar a (beside files new) (to_start None)
             (seen N.sunk N.faults self.new)) }
+        ensures idle { self.new.started ≡ None }
         ensures stood { Stood self.old.speaker.core → OnOk result (Stood self.new.speaker.core) }
     {
-        let _acts = self.speaker.tell(WorkerInput::ChildDone { outcome, ms })?;
         self.started = None;
+        let _acts = self.speaker.tell(WorkerInput::ChildDone { outcome, ms })?;
         Ok(())
     }
 

@@ -8,7 +8,7 @@ use crate::{Inlet, Outlet, OwnOutput, RealSink, Stoppable, StreamOutput};
 use os::FromRawFd;
 use std::alloc::{AllocError, Global};
 use std::fs::Files;
-use std::io::{self, PipeWriter, Stdin};
+use std::io::{self, ErrorKind, PipeWriter, Stdin};
 use std::net::{Net, OpenStream, Shutdown};
 use std::os::fd::OwnedFd;
 use std::process::{Child, ChildStdin, Command, OpenProcess, Processes};
@@ -75,18 +75,21 @@ impl<'a, H: Files + Processes + Net> RealStarter<'a, H> {
         }
     }
 
-    fn open_child(&self, command: Command) -> Option<Opened<'a, H>>
-        ensures { IfSome result (λ o. is_child o.kept ≡ true) }
+    fn open_child(&self, command: Command) -> Result<Option<Opened<'a, H>>, AllocError>
+        ensures { IfOk result (λ r. IfSome r (λ o. is_child o.kept ≡ true)) }
     {
         let mut command = command;
-        let mut child = command.spawn(self.rt).ok()?;
-        let input = child.stdin.take()?;
-        let output = child.stdout.take()?;
-        Some(Opened {
+        let Some(mut child) = given(command.spawn(self.rt))? else {
+            return Ok(None);
+        };
+        let (Some(input), Some(output)) = (child.stdin.take(), child.stdout.take()) else {
+            return Ok(None);
+        };
+        Ok(Some(Opened {
             kept: Kept::Child(child),
             source: InSource::new(Inlet::Child(Some(output))),
             sink: RealSink::new(self.rt, Outlet::Child(input)),
-        })
+        }))
     }
 
     fn open_own(&self, alloc: Global) -> Result<Option<Opened<'a, H>>, AllocError>
@@ -120,7 +123,7 @@ impl<'a, H: Files + Processes + Net> RealStarter<'a, H> {
     ) -> Result<Option<Opened<'a, H>>, AllocError>
         ensures { IfOk result (λ r. IfSome r (λ o. is_child o.kept ≡ false)) }
     {
-        let Ok(stream) = stream else {
+        let Some(stream) = given(stream)? else {
             return Ok(None);
         };
         let (Ok(reading), Ok(writing)) = (stream.try_clone(), stream.try_clone()) else {
@@ -145,7 +148,7 @@ impl<'a, H: Files + Processes + Net> RealStarter<'a, H> {
         match place {
             Place::Popen { chdir, env } => {
                 let command = worker_of(alloc, &self.program, chdir, env)?;
-                Ok(self.open_child(command))
+                self.open_child(command)
             }
             Place::Own => self.open_own(alloc),
             Place::Socket { host, port } => {
@@ -181,6 +184,15 @@ impl<'a, H: Files + Processes + Net> RealStarter<'a, H> {
         };
         self.links.push_reserved(kept);
         Ok(Started { link, source, sink })
+    }
+}
+
+// What the system gave, or `None` where it refused it for another reason than memory.
+fn given<T>(answer: io::Result<T>) -> Result<Option<T>, AllocError> {
+    match answer {
+        Ok(value) => Ok(Some(value)),
+        Err(fault) if fault.kind() == ErrorKind::OutOfMemory => Err(AllocError),
+        Err(_) => Ok(None),
     }
 }
 

@@ -5,7 +5,7 @@ ghost use Rattle.std.specs.Prelude.{◌≡◌, [], IfOk};
 ghost use Rattle.std.specs.Process.{exit_status};
 
 use std::alloc::Global;
-use std::io::BufWriter;
+use std::io::{BufWriter, ErrorKind};
 use std::process::ExitCode;
 use std::rt::Env;
 use std::{env, io};
@@ -38,7 +38,11 @@ fn no_words(alloc: Global) -> (Text, Texts)
 
 fn main(rt: HostRuntime) -> io::Result<ExitCode> {
     let alloc = rt.alloc();
-    let (program, words) = words_of(&rt, alloc).unwrap_or_else(|_| no_words(alloc));
+    let (program, words) = match words_of(&rt, alloc) {
+        Ok(found) => found,
+        Err(fault) if fault.kind() == ErrorKind::OutOfMemory => return out_of_memory(&rt),
+        Err(_) => no_words(alloc),
+    };
     let Ok(writer) = BufWriter::new(alloc, rt.stdout()) else {
         return out_of_memory(&rt);
     };
