@@ -6,7 +6,7 @@
 #   workers     how many workers run it
 #   children    not empty where a worker is a child of the program
 #   address     where `socketserver` listens
-#   notes       a line for each place at which no worker can be started
+#   notes       a line for each thing that is missing, as a folder
 
 most_workers=32
 
@@ -200,13 +200,16 @@ note_place() {
         children=yes
     fi
     if [ -n "$has_folder" ] && ! is_folder "$folder"; then
-        notes="${notes}xdrun: --tx $1: there is no folder ${folder:-without a name}
-"
+        note "--tx $1: there is no folder ${folder:-without a name}"
     fi
     case "$socket" in
-        \[*) notes="${notes}xdrun: --tx $1: an IPv6 address has no brackets here, as in ::1:8888
-" ;;
+        \[*) note "--tx $1: an IPv6 address has no brackets here, as in ::1:8888" ;;
     esac
+}
+
+note() {
+    notes="${notes}xdrun: $1
+"
 }
 
 is_folder() {

@@ -18,8 +18,8 @@ commit() {
     cat "$root/start/commit" 2>/dev/null || git -C "$root" describe --always --dirty 2>/dev/null || echo unknown
 }
 
-# The program takes the place of the script, so that signals reach it. Where it is likely to refuse the words, or cannot
-# listen, the script stays, to say then which word it is, or why.
+# The program takes the place of the script, so that signals reach it. Where it is likely to refuse the words, or to end
+# soon as something is missing, the script stays, to say then which word it is, or what is missing.
 run_program() {
     read_words "$@"
     if [ -n "$fault$bad_spec" ] && can_be_written; then
@@ -29,11 +29,9 @@ run_program() {
         say "each worker reads the suite for itself: name a file, not $suite"
         exit 4
     fi
-    printf %s "$notes" >&2
     [ "$workers" -eq 0 ] || note_open_files
-    if [ -n "$address" ] && ! may_listen; then
-        explain_end "$@"
-    fi
+    [ -z "$address" ] || note_listener
+    [ -z "$notes" ] || explain_end "$@"
     exec "$program" "$@"
 }
 
@@ -50,16 +48,19 @@ explain_refusal() {
     { line=$("$program" "$@" 2>&1 >&3 3>&-); status=$?; } 3>&1
     [ -z "$line" ] || printf '%s\n' "$line" >&2
     case "$status$line" in
-        "4xdrun: bad words") say "$fault; $0 --help has the words" ;;
-        "4xdrun: bad spec") say "$bad_spec; $0 --help has the words" ;;
+        "4xdrun: bad words") say "$fault; see $0 --help" ;;
+        "4xdrun: bad spec") say "$bad_spec; see $0 --help" ;;
     esac
     exit "$status"
 }
 
+# What was missing before the program began stands last, where a terminal shows it.
 explain_end() {
     "$program" "$@"
     status=$?
-    [ "$status" -ne 3 ] || say "$why"
+    case "$kind$status" in
+        run1 | socketserver3) printf %s "$notes" >&2 ;;
+    esac
     exit "$status"
 }
 
@@ -76,18 +77,16 @@ note_open_files() {
     most=$(ulimit -n)
     needs=$((6 + 2 * workers))
     if [ "$most" != unlimited ] && [ "$most" -lt $needs ]; then
-        say "a run on $workers workers takes at least $needs open files, and ulimit -n is $most"
+        note "$workers workers take at least $needs open files, and ulimit -n is $most"
     fi
 }
 
-# Whether nothing is seen that keeps `socketserver` from listening at `address`; else `why` is set.
-may_listen() {
+note_listener() {
     port=${address##*:}
     case "$address" in
-        \[*) why="it cannot listen at $address: write an IPv6 address without brackets" ;;
-        *) ! is_taken "${address%:*}" || why="it cannot listen: port $port is in use" ;;
+        \[*) note "it cannot listen at $address: write an IPv6 address without brackets" ;;
+        *) ! is_taken "${address%:*}" || note "it cannot listen: port $port is in use" ;;
     esac
-    [ -z "${why-}" ]
 }
 
 # Whether somebody listens at `port` of this host, by the tables of Linux. A host that is a name may be any address.
