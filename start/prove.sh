@@ -1,23 +1,22 @@
 # How ./xdrun proves the program and builds it. Whoever reads this file has set `root`, the folder of the repository, and
 # `program`, and has the function `give_up`.
 #
-# `rt ci` proves crates that do not need each other side by side, as many as processors and memory allow, and keeps each
-# as soon as it is proved. It runs here on a copy of the program's own crates, without wrong bodies and tests, which the
-# program does not need: a third of what the whole gate takes.
+# `rt ci` proves crates that do not need each other side by side, as many as processors and memory allow. A kit that keeps
+# what passed keeps each crate once it is proved, so that a call that was cut off goes on there, and the gate need not
+# prove it again. It runs here on a copy of the program's own crates, without the wrong bodies and without crates of tests.
 
 prove() {
     copy=$(mktemp -d) || give_up "no temporary folder could be made; see that the folder in TMPDIR, or /tmp, can be written"
     : >"$copy/log"
     trap 'rm -rf "$copy"; exit 130' INT
     trap 'rm -rf "$copy"; exit 129' HUP
-    trap 'rm -rf "$copy"; exit 143' TERM
     if ! copy_crates || ! prove_copy || ! keep_program; then
         tail -n 50 "$copy/log" >&2
         rm -rf "$copy"
         give_up "the program could not be built; what was said last stands above"
     fi
     rm -rf "$copy"
-    trap - INT HUP TERM
+    trap - INT HUP
 }
 
 # The lines of crates.txt of the program and of all that it stands on.
@@ -53,14 +52,14 @@ copy_crates() {
 # Says of each crate how many are left.
 prove_copy() {
     left=$(wc -l <"$copy/names")
-    echo "xdrun: proving and building the program, $left crates side by side; a call that is cut off goes on from there" >&2
+    echo "xdrun: proving and building the program, $left crates side by side" >&2
     (cd "$copy" && rt ci 2>&1) | while IFS= read -r line; do
         printf '%s\n' "$line" >>"$copy/log"
         case "$line" in
             'rt: '*' proved' | 'rt: '*' is kept: '*)
                 left=$((left - 1))
                 line=${line#rt: }
-                echo "xdrun: ${line%% *} is proved, $left left" >&2
+                echo "xdrun: ${line%% *} is proved, $left are left" >&2
                 ;;
         esac
     done
