@@ -59,7 +59,7 @@ prove_copy() {
             'rt: '*' proved' | 'rt: '*' is kept: '*)
                 left=$((left - 1))
                 line=${line#rt: }
-                echo "xdrun: ${line%% *} is proved, $left are left" >&2
+                echo "xdrun: ${line%% *} is proved, $left left" >&2
                 ;;
         esac
     done
