@@ -13,6 +13,7 @@ use std::net::{Net, OpenStream, Shutdown};
 use std::os::fd::OwnedFd;
 use std::process::{Child, ChildStdin, Command, OpenProcess, Processes};
 use std::sync::Wait;
+use std::time::Clock;
 use xd_edge::{Failed, Text, raise};
 use xd_link::{InSource, Place, StartFault, Started, Starter};
 
@@ -56,7 +57,7 @@ struct Opened<'a, H: Files + Processes + Net> {
     ghost no_writes: { sink.faults ≡ 0 },
 }
 
-impl<'a, H: Files + Processes + Net> RealStarter<'a, H> {
+impl<'a, H: Files + Processes + Net + Clock> RealStarter<'a, H> {
     ghost use Rattle.xd_link.specs.Starter.{has_child, link_not_failed};
     ghost use Rattle.xd_real.specs.Kept.{KeepsOneMore, is_child};
 
@@ -221,7 +222,7 @@ fn own_output() -> ChildStdin {
     ChildStdin::from(unsafe { OwnedFd::from_raw_fd(1) })
 }
 
-impl<'a, H: Files + Processes + Net> Starter for RealStarter<'a, H> {
+impl<'a, H: Files + Processes + Net + Clock> Starter for RealStarter<'a, H> {
     ghost use Rattle.xd_real.specs.Kept.{ChangesOnly};
 
     type Src = RealSource<H>;

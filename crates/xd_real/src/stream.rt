@@ -4,7 +4,15 @@ use std::alloc::{AllocError, Global};
 use std::io::{self, BufWriter, ErrorKind, Write};
 use std::net::{Net, OpenListener, OpenStream, Shutdown, TcpListener, TcpStream};
 use std::os::fd::AsRawFd;
+use std::thread;
+use std::time::{Clock, Duration};
 use xd_edge::Text;
+
+// How often a refused connection is tried again, and the milliseconds before each of these tries: two seconds together,
+// in which whoever served the last connection may listen for the next one.
+const TRIES: u32 = 40;
+
+const PAUSE: u64 = 50;
 
 /// The writing direction of a stream, which keeps bytes until it is flushed.
 #[derive(Drop)]
@@ -55,8 +63,16 @@ pub fn shut<S: OpenStream>(stream: &S, how: Shutdown) -> io::Result<()> {
     }
 }
 
-/// A stream to whoever listens at this host and port.
-pub fn connect<H: Net>(rt: &H, host: &Text, port: u16) -> io::Result<H::Stream> {
+/// A stream to whoever listens at this host and port. While the connection is refused it is tried again, for two seconds.
+pub fn connect<H: Net + Clock>(rt: &H, host: &Text, port: u16) -> io::Result<H::Stream> {
+    for _ in 0..TRIES {
+        match TcpStream::connect(rt, (host.as_str(), port)) {
+            Err(fault) if fault.kind() == ErrorKind::ConnectionRefused => {
+                thread::sleep(rt, Duration::from_millis(PAUSE));
+            }
+            ended => return ended,
+        }
+    }
     TcpStream::connect(rt, (host.as_str(), port))
 }
 
