@@ -11,7 +11,7 @@ prove() {
     : >"$copy/log"
     trap 'rm -rf "$copy"; exit 130' INT
     trap 'rm -rf "$copy"; exit 129' HUP
-    if ! copy_crates || ! prove_copy || ! keep_program; then
+    if ! list_crates || ! copy_crates || ! prove_copy || ! keep_program; then
         say_failures >&2
         rm -rf "$copy"
         give_up "the program could not be built; what rt said stands above"
@@ -35,10 +35,15 @@ lines_of_program() {
     ' "$root/crates.txt"
 }
 
+list_crates() {
+    lines_of_program >"$copy/crates.txt" && sed 's/[ :].*//' "$copy/crates.txt" >"$copy/names" || return 1
+    left=$(wc -l <"$copy/names")
+    echo "xdrun: proving and building the program, $left crates side by side" >&2
+}
+
 copy_crates() {
     # rt wants the top of a repository here.
-    mkdir "$copy/.git" "$copy/crates" && cp "$root/HANDLES" "$copy" && lines_of_program >"$copy/crates.txt" || return 1
-    sed 's/[ :].*//' "$copy/crates.txt" >"$copy/names"
+    mkdir "$copy/.git" "$copy/crates" && cp "$root/HANDLES" "$copy" || return 1
     while read -r crate; do
         mkdir "$copy/crates/$crate" || return 1
         for part in "$root/crates/$crate"/*; do
@@ -52,8 +57,6 @@ copy_crates() {
 
 # Says of each crate how many are left.
 prove_copy() {
-    left=$(wc -l <"$copy/names")
-    echo "xdrun: proving and building the program, $left crates side by side" >&2
     (cd "$copy" && rt ci 2>&1) | while IFS= read -r line; do
         printf '%s\n' "$line" >>"$copy/log"
         case "$line" in
