@@ -1,19 +1,20 @@
-# How ./xdrun proves the program and builds it. Whoever reads this file has set `root`, the folder of the repository, and
-# `program`, and has the function `give_up`.
+# How ./xdrun proves the program and builds it. Whoever reads this file has set `root`, the folder of the repository,
+# and `program`, and has the function `give_up`.
 #
-# `rt ci` proves crates that do not need each other side by side, as many as processors and memory allow. A kit that keeps
-# what passed keeps each crate once it is proved, so that a call that was cut off goes on there, and the gate need not
-# prove it again. It runs here on a copy of the program's own crates, without the wrong bodies and without crates of tests.
+# `rt ci` proves crates that do not need each other side by side, as many as processors and memory allow. A kit that
+# keeps what passed keeps each crate once it is proved, so that a call that was cut off goes on there, and the gate need
+# not prove it again. It runs here on a copy of the program's own crates, without wrong bodies and crates of tests.
 
 prove() {
-    copy=$(mktemp -d) || give_up "no temporary folder could be made; see that the folder in TMPDIR, or /tmp, can be written"
+    copy=$(mktemp -d) ||
+        give_up "no temporary folder could be made; see that the folder in TMPDIR, or /tmp, can be written"
     : >"$copy/log"
     trap 'rm -rf "$copy"; exit 130' INT
     trap 'rm -rf "$copy"; exit 129' HUP
-    if ! copy_crates || ! prove_copy || ! keep_program; then
-        tail -n 50 "$copy/log" >&2
+    if ! list_crates || ! copy_crates || ! prove_copy || ! keep_program; then
+        say_failures >&2
         rm -rf "$copy"
-        give_up "the program could not be built; what was said last stands above"
+        give_up "the program could not be built; what rt said stands above"
     fi
     rm -rf "$copy"
     trap - INT HUP
@@ -34,10 +35,15 @@ lines_of_program() {
     ' "$root/crates.txt"
 }
 
+list_crates() {
+    lines_of_program >"$copy/crates.txt" && sed 's/[ :].*//' "$copy/crates.txt" >"$copy/names" || return 1
+    left=$(wc -l <"$copy/names")
+    echo "xdrun: proving and building the program, $left crates side by side" >&2
+}
+
 copy_crates() {
     # rt wants the top of a repository here.
-    mkdir "$copy/.git" "$copy/crates" && cp "$root/HANDLES" "$copy" && lines_of_program >"$copy/crates.txt" || return 1
-    sed 's/[ :].*//' "$copy/crates.txt" >"$copy/names"
+    mkdir "$copy/.git" "$copy/crates" && cp "$root/HANDLES" "$copy" || return 1
     while read -r crate; do
         mkdir "$copy/crates/$crate" || return 1
         for part in "$root/crates/$crate"/*; do
@@ -51,8 +57,6 @@ copy_crates() {
 
 # Says of each crate how many are left.
 prove_copy() {
-    left=$(wc -l <"$copy/names")
-    echo "xdrun: proving and building the program, $left crates side by side" >&2
     (cd "$copy" && rt ci 2>&1) | while IFS= read -r line; do
         printf '%s\n' "$line" >>"$copy/log"
         case "$line" in
@@ -64,6 +68,17 @@ prove_copy() {
         esac
     done
     tail -n 1 "$copy/log" | grep -q ' passed, 0 failed'
+}
+
+# What rt said of each crate that was not proved, and after the last one.
+say_failures() {
+    awk '
+        /^== / { said = "" }
+        { said = said $0 "\n" }
+        / NOT PROVED/ { printf "%s", said }
+        / NOT PROVED/ || /^rt: .* proved$/ { said = "" }
+        END { printf "%s", said }
+    ' "$copy/log"
 }
 
 # The program is as old as the copy, so that what was changed since then counts as newer.

@@ -20,7 +20,8 @@ read_words() {
             ;;
     esac
     for word in "$@"; do
-        read_word "$word"
+        is_text "$word" || fault="a word is no UTF-8"
+        [ -n "$fault" ] || read_word "$word"
         [ -z "$fault" ] || return 0
     done
     [ -z "$waiting" ] || fault="$waiting has no value"
@@ -32,6 +33,13 @@ read_words() {
     if [ -z "$bad_spec" ] && [ "$workers" -gt $most_workers ]; then
         bad_spec="--tx names $workers workers, and a run has at most $most_workers"
     fi
+}
+
+# Whether a word is UTF-8, as far as can be told here.
+is_text() {
+    case "$1" in
+        *[!\ -~]*) ! command -v iconv >/dev/null || printf %s "$1" | iconv -f UTF-8 -t UTF-8 >/dev/null 2>&1 ;;
+    esac
 }
 
 read_word() {
