@@ -15,9 +15,9 @@ shift
 # Ctrl-C reaches this shell and not the test, which has a process group of its own.
 stop() {
     trap '' INT HUP TERM
-    kill -INT "$!"
+    kill -s INT "$!"
     sleep 2
-    kill -KILL -- "-$!"
+    kill -s KILL -- "-$!"
     exit 130
 } 2>/dev/null
 trap stop INT HUP TERM

@@ -9,7 +9,7 @@ if [ "${1-}" = --files ]; then
     shift
 fi
 tests=$(python3 -m pytest "$@" --collect-only --verbosity=-1 --no-summary) || {
-    printf '%s\n' "$tests" >&2
+    python3 -m pytest "$@" --collect-only -q >&2
     exit 1
 }
 case $(python3 -m pytest --help) in *--numprocesses*) set -- "$@" -n0 ;; esac
