@@ -62,7 +62,7 @@ with=$(printf '%s\n' "$tests" | sed -n 's/^with //p')
 make_suite() {
     sh "$(dirname "$0")/make_suite.sh" -o "$1" -w 60 sh -c '
 with=$(printf "%s\n" "$3" | sed -n "s/^$1 //p")
-ctest --test-dir build --timeout $((LIMIT * 5 / 6)) --output-on-failure -I "$1,$1,1$with"
+ctest --test-dir build --timeout "$OWN_LIMIT" --output-on-failure -I "$1,$1,1$with"
 status=$?
 case $(grep -F " #$1: $2 ." "$TEST_OUTPUT") in
 *"***Skipped "*) exit 77 ;;

@@ -20,7 +20,7 @@ printf '%s\n' "$tests" | awk '
 ' | sh "$(dirname "$0")/make_suite.sh" -o suite.toml -w 60 sh -c '
 package=$1 name=$2
 shift 2
-go test -timeout "$((LIMIT * 5 / 6))s" "$@" -count=1 -v -run "^$name\$" "$package" || exit
+go test -timeout "${OWN_LIMIT}s" "$@" -count=1 -v -run "^$name\$" "$package" || exit
 grep -qF -e "--- PASS: $name (" "$TEST_OUTPUT" && exit 0
 grep -qF -e "--- SKIP: $name (" "$TEST_OUTPUT" && exit 77
 echo "go test did not say that it passed"

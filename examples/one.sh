@@ -6,9 +6,11 @@
 # LOGS=     a folder, which gets a file with the whole output of each test, and for each run a line
 #           in times.tsv as it ends: seconds, status, file, id
 #
-# The command finds its limit in LIMIT, and the file of its output so far in TEST_OUTPUT.
+# The command finds in OWN_LIMIT a limit for the tool to set itself, so that it says where a test
+# hangs, and in TEST_OUTPUT the file of its output so far.
 exec 2>&1
-export LIMIT="${LIMIT:-60}" TEST_OUTPUT=
+LIMIT=${LIMIT:-60} TEST_OUTPUT=
+export OWN_LIMIT="${OWN_LIMIT:-$((LIMIT * 5 / 6))}" TEST_OUTPUT
 id=$1
 shift
 

@@ -27,8 +27,8 @@ class One:
 
 one = One(sys.argv[1])
 # Where a test hangs, its stack is printed before the limit of time kills it.
-soon = int(os.environ["LIMIT"]) * 5 // 6
-status = int(pytest.main([*sys.argv[2:], "-o", f"faulthandler_timeout={soon}"], plugins=[one]))
+limit = "faulthandler_timeout=" + os.environ["OWN_LIMIT"]
+status = int(pytest.main([*sys.argv[2:], "-o", limit], plugins=[one]))
 if status == 0:
     print("pytest came to its end", flush=True)
     status = 77 if one.was_skipped and not one.has_run else 0
