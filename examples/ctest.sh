@@ -34,12 +34,16 @@ tests=$(printf '%s\n' "$tests" | awk '
         id[++listed] = $0
         next
     }
-    # The same tests in JSON, which has a bracket, a brace or a text in a line. Names are compared as
-    # they are written there.
+    # The same tests in JSON, which has a bracket, a brace or a text in a line; names are compared
+    # as they are written there.
     { gsub(/^[ \t]+|,$/, "") }
     /^("[A-Za-z]+" : )?[[{]$/ { depth++ }
     /^[]}]$/ { depth-- }
-    depth == 3 && sub(/^"name" : "/, "") { sub(/"$/, ""); names[++test] = $0; test_of[$0] = test }
+    depth == 3 && sub(/^"name" : "/, "") {
+        sub(/"$/, "")
+        names[++test] = $0
+        test_of[$0] = test
+    }
     depth == 5 && sub(/^"name" : /, "") { property = $0 }
     depth == 5 && /^"value" : true$/ && property ~ /RUN_SERIAL/ { is_alone[test] = 1 }
     depth == 5 && /^"value" : true$/ && property ~ /DISABLED/ { is_disabled[test] = 1 }

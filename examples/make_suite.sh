@@ -31,9 +31,10 @@ while getopts o:w:g: option; do
     esac
 done
 shift $((OPTIND - 1))
+case $limit in *[!0-9]*) give_up "-w takes a number of seconds, as in -w 60" ;; esac
 [ $# -gt 0 ] || give_up "no command is named; write that of one test, with {} for its id"
 
-# The script with the command. Each word is quoted for the shell, and the id, or a part, stands in it.
+# The script with the command, whose words are quoted for the shell, with the id in its places.
 print_script() {
     printf '%s\n' '#!/bin/sh' "# Runs one test of $output: sh $script ID. Made by make_suite.sh." \
         "LIMIT=\${LIMIT:-$limit}" 'set -- "$1" \'
@@ -134,7 +135,8 @@ function keep(table, name) {
     text = text "run = ["
     for (i = 1; i <= count; i++) text = text (i > 1 ? ", " : "") quoted(filled(words[i]))
     text = text "]\n"
-    if (told > 50000) refuse("it has over 50,000 tests; make several suites, as of parts by split -l")
+    if (told > 50000)
+        refuse("it has over 50,000 tests; make several suites, as of parts by split -l")
     if ((size += length(text)) > 4194304)
         refuse("line " NR " is where the suite grows over 4,194,304 bytes; give -w, so that the" \
             " command stands once, or make several suites, as of parts by split -l")

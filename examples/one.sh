@@ -46,8 +46,10 @@ while [ $tries -gt 0 ]; do
     case $status in 0 | 77) exit "$status" ;; esac
 done
 
-# The report keeps 8,192 bytes of it.
-[ "$status$((took / 1000 >= LIMIT))" != 1371 ] || echo "over its limit of $LIMIT s"
+if [ "$status" -eq 137 ] && [ $((took / 1000)) -ge "$LIMIT" ]; then
+    echo "over its limit of $LIMIT s"
+fi
+# The report keeps 8,192 bytes.
 size=$(($(wc -c <"$TEST_OUTPUT")))
 if [ $size -le 8000 ]; then
     cat "$TEST_OUTPUT"

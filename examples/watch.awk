@@ -1,6 +1,6 @@
-# Shows a report as it comes: ./xdrun SUITE -n 4 | awk -f watch.awk. On a terminal one line tells how
-# far the run is, a failure is named as it comes, and the rest stands as it is; elsewhere the report
-# is what it was. A line that begins with the text `end` has the status to end with: watch.sh adds it.
+# Shows a report as it comes. On a terminal one line tells how far the run is, a failure is named as
+# it comes, and the rest stands as it is; elsewhere the report is what it was. A line that begins
+# with the text `end` has the status to end with: watch.sh adds it.
 
 function clock(    now) {
     "date +%s" | getline now

@@ -1,5 +1,5 @@
 #!/bin/sh
-# Shows on a terminal how far a run is, and ends with its status: sh watch.sh ./xdrun SUITE [WORD]...
+# Shows on a terminal how far a run is, and ends with its status: sh watch.sh ./xdrun SUITE -n 4.
 # Where standard output is no terminal, it is the run itself.
 [ -t 1 ] || exec "$@"
 # mawk reads a pipe in large pieces unless it is told otherwise.
