@@ -1,13 +1,3 @@
 #!/bin/sh
-# A suite of the files in which pytest collects tests. Where pytest-xdist is there, no file starts
-# workers.
-tests=$(python3 -m pytest --collect-only --verbosity=-1 --disable-warnings) || {
-    printf '%s\n' "$tests" >&2
-    exit 1
-}
-no_workers=
-case $(python3 -m pytest --help) in *--numprocesses*) no_workers=-n0 ;; esac
-printf '%s\n' "$tests" | sed -n 's/::.*//p' | awk '!seen[$0]++' |
-    sh "$(dirname "$0")/make_suite.sh" -o suite.toml \
-    sh -c 'timeout -s KILL 600 "$@" 2>&1; exit $?' sh \
-    python3 -m pytest -q --tb=short $no_workers {}
+# A suite of the files in which pytest collects tests: sh pytest_files.sh [WORD of pytest]...
+exec sh "$(dirname "$0")/pytest.sh" --files --tb=short "$@"
