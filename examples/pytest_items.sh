@@ -5,6 +5,10 @@
 #
 # workers.py says how they are started and ended, and pytest_worker.py what an item comes to.
 here=$(dirname "$0")
+python3 -c 'import importlib.util as util, sys; sys.exit(util.find_spec("pytest") is None)' || {
+    echo 'pytest_items.sh: python3 has no pytest' >&2
+    exit 4
+}
 is_pytest=
 for word do
     shift
