@@ -8,8 +8,8 @@ it starts COMMAND with the connection as standard input and output; so a worker 
 open. What COMMAND says on standard error is shown where it ends by a signal or with a status that is not 0.
 
 The variables XDRUN_WORKER, gw0 to the last, XDRUN_WORKERS, their number, and XDRUN_RUN, a name of this run, tell COMMAND
-where it stands; a new worker has the number of its place. XDRUN names the program, if it is not the one beside this
-folder.
+where it stands; a new worker has the number of its place. XDRUN names the program, where it is not the xdrun
+beside the folder of this script.
 
 The status is that of xdrun. Whatever ends this script, Ctrl-C and SIGKILL among it, xdrun ends with it, on Linux; a worker
 has to end where its link ends, and is killed where it has not after some seconds, with all that it started in its session.
@@ -137,8 +137,8 @@ def read(words):
 
 def main():
     count, words, command = read(sys.argv[1:])
-    here = os.path.dirname(os.path.realpath(__file__))
-    program = os.environ.get("XDRUN") or os.path.join(here, "..", "xdrun")
+    beside = os.path.join(os.path.dirname(os.path.dirname(os.path.abspath(__file__))), "xdrun")
+    program = os.environ.get("XDRUN") or beside
     # Run on no message, so that what has to be built is built here, and not while workers wait.
     if shutil.which(program) is None or subprocess.run([program, "wire", os.devnull]).returncode != 0:
         give_up(f"{program} does not run; XDRUN names another one")
