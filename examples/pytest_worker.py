@@ -9,6 +9,7 @@ the log; else skipped where one of them skipped it; an expected failure is passe
 that does not come so far, is a refusal with pytest's words. Where the link ends before the last item, the one that runs is
 interrupted as by Ctrl-C, so that its fixtures are torn down.
 """
+import contextlib
 import os
 import re
 import signal
@@ -45,9 +46,9 @@ class Link:
         os.dup2(os.open(os.devnull, os.O_RDONLY), 0)
         os.dup2(2, 1)
         self.changed, self.line, self.count = threading.Condition(), [], 0
-        self.log, self.has_ended = 0, False
+        self.log, self.has_ended, self.is_lost = 0, False, False
         self.sink.write(b"1")
-        _, _, _, self.call = loads(self.read()[1])
+        _, _, _, self.call = loads(self.read() or sys.exit())
         self.event("workerready")
         self.sink.flush()
         self.reader = threading.Thread(target=self.listen, daemon=True)
@@ -62,21 +63,23 @@ class Link:
         self.say(DATA, CALL, text(name) + b"J" + pairs + number(2, b"@") + b"Q")
 
     def read(self):
-        """The kind and the payload of the next message; the end of the link is one that ends it."""
-        kind, _, length = HEADER.unpack(self.source.read(HEADER.size).ljust(HEADER.size, bytes([TERMINATE])))
-        return kind, b"" if kind == TERMINATE else self.source.read(length)
+        """The payload of the next message, or None where the link ends or is told to end."""
+        header = self.source.read(HEADER.size)
+        if len(header) < HEADER.size or header[0] == TERMINATE:
+            return None
+        payload = self.source.read(HEADER.unpack(header)[2])
+        return payload if payload.endswith(b"Q") else None
 
     def listen(self):
         """Obeys what the controller says up to the end of the link."""
-        while True:
-            kind, payload = self.read()
-            if kind == TERMINATE:
-                break
-            with self.changed:
-                self.obey(*loads(payload))
-                self.changed.notify()
-        if not self.has_ended:
-            self.interrupt()
+        try:
+            while (payload := self.read()) is not None:
+                with self.changed:
+                    self.obey(*loads(payload))
+                    self.changed.notify()
+        finally:
+            if not self.has_ended:
+                self.interrupt()
 
     def obey(self, command, values):
         tests = list(values.get("indices", {}).values())
@@ -98,6 +101,7 @@ class Link:
 
     def interrupt(self):
         """Interrupts the main thread as Ctrl-C does, and ends this process where that does not help."""
+        self.is_lost = True
         signal.pthread_kill(threading.main_thread().ident, signal.SIGINT)
         time.sleep(SECONDS)
         os._exit(1)
@@ -163,9 +167,10 @@ class Items:
         os.environ.update(zip(names, (worker, count, run)))
         config.workerinput = {"workerid": worker, "workercount": int(count or 1), "testrunuid": run, "mainargv": sys.argv}
         config.workeroutput = {}
-        if getattr(config.option, "numprocesses", None):
+        if hasattr(config.option, "numprocesses"):
+            # pytest-xdist is there, and starts no workers of its own.
             config.option.numprocesses = 0
-        if config.option.basetemp:
+        if getattr(config.option, "basetemp", None):
             os.makedirs(config.option.basetemp, exist_ok=True)
             config.option.basetemp = os.path.join(config.option.basetemp, worker)
         yield
@@ -173,7 +178,8 @@ class Items:
     @pytest.hookimpl(trylast=True)
     def pytest_configure(self, config):
         config.addinivalue_line("markers", "xdist_group(name): the group of a test, for the mode loadgroup")
-        config.pluginmanager.unregister(name="terminalreporter")
+        if config.pluginmanager.has_plugin("terminalreporter"):
+            config.pluginmanager.unregister(name="terminalreporter")
 
     def pytest_collectreport(self, report):
         if report.failed:
@@ -251,9 +257,14 @@ def said_on_stderr():
 
 
 def main():
+    signal.signal(signal.SIGINT, signal.default_int_handler)
     link = Link()
     plugin = Items(link)
-    status = pytest.main(sys.argv[1:], plugins=[plugin])
+    status = pytest.ExitCode.INTERRUPTED
+    with contextlib.suppress(KeyboardInterrupt):
+        status = pytest.main(sys.argv[1:], plugins=[plugin])
+    if link.is_lost:
+        return
     if plugin.has_finished:
         link.end()
     elif not plugin.has_collected:

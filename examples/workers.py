@@ -62,16 +62,18 @@ class Place:
     def serve(self):
         while True:
             link, _ = self.server.accept()
-            with link, tempfile.TemporaryFile() as said:
-                if self.is_over:
-                    return
-                link.setsockopt(socket.IPPROTO_TCP, socket.TCP_NODELAY, 1)
-                status = self.work(link, said)
-                if status:
-                    self.show(status, said)
+            if self.is_over:
+                return
+            # Where no worker can be started, the end of the link tells the controller.
+            try:
+                with link, tempfile.TemporaryFile() as said:
+                    self.show(self.work(link, said), said)
+            except OSError as fault:
+                print(f"workers.py: no worker at {self.name}: {fault}", file=sys.stderr)
 
     def work(self, link, said):
         """Lets a worker serve the link to its end, and gives its status."""
+        link.setsockopt(socket.IPPROTO_TCP, socket.TCP_NODELAY, 1)
         # In a session of its own it gets no Ctrl-C: it is told by the end of its link, and what it started ends with it.
         self.worker = subprocess.Popen(
             self.command, stdin=link, stdout=link, stderr=said, env=self.variables, start_new_session=True
@@ -84,6 +86,9 @@ class Place:
         return status
 
     def show(self, status, said):
+        """Shows what a worker said that did not end well."""
+        if status == 0:
+            return
         said.seek(max(0, said.seek(0, os.SEEK_END) - MOST_SHOWN))
         text = said.read().decode(errors="replace")
         print(f"workers.py: the worker at {self.name} ended with {status}\n{text}", end="", file=sys.stderr, flush=True)
@@ -143,7 +148,8 @@ def main():
     if shutil.which(program) is None or subprocess.run([program, "wire", os.devnull]).returncode != 0:
         give_up(f"{program} does not run; XDRUN names another one")
     for number in (signal.SIGTERM, signal.SIGHUP):
-        signal.signal(number, lambda number, _: sys.exit(128 + number))
+        if signal.getsignal(number) != signal.SIG_IGN:
+            signal.signal(number, lambda number, _: sys.exit(128 + number))
     variables = {"XDRUN_WORKERS": str(count), "XDRUN_RUN": uuid.uuid4().hex}
     try:
         sys.exit(run(program, words, [Place(f"gw{number}", command, variables) for number in range(count)]))
