@@ -170,6 +170,8 @@ class Items:
         if hasattr(config.option, "numprocesses"):
             # pytest-xdist is there, and starts no workers of its own.
             config.option.numprocesses = 0
+        # The controller counts failures: no item is the last one because of them.
+        config.option.maxfail = 0
         if getattr(config.option, "basetemp", None):
             os.makedirs(config.option.basetemp, exist_ok=True)
             config.option.basetemp = os.path.join(config.option.basetemp, worker)
@@ -258,6 +260,8 @@ def said_on_stderr():
 
 def main():
     signal.signal(signal.SIGINT, signal.default_int_handler)
+    # A process that multiprocessing spawns imports the script of its parent by this name: under pytest there is none.
+    del globals()["__file__"]
     link = Link()
     plugin = Items(link)
     status = pytest.ExitCode.INTERRUPTED
