@@ -1,10 +1,10 @@
-"""Plays a conversation of a page at the built program from both ends: as the worker at a controller, and as the controller
-at a worker. What the other end says has to be what the page shows, byte for byte, but for the milliseconds of a test, and
-what the controller prints the lines that the page shows.
+"""Plays a conversation of a page at the built program from both ends: as the worker at a controller, and as
+the controller at a worker. What the other end says has to be what the page shows, byte for byte, but for
+the milliseconds of a test, and what the controller prints the lines that the page shows.
 
-A line of a conversation begins with who speaks, `controller` or `worker`; a line that begins with a space goes on with it.
-After that stand its bytes: texts in double quotes, opcodes as one letter, and all else in hexadecimal digits. The lines
-that the controller prints stand after `prints `, where they are printed.
+A line of a conversation begins with who speaks, `controller` or `worker`; a line that begins with a space
+goes on with it. After that stand its bytes: texts in double quotes, opcodes as one letter, and all else in
+hexadecimal digits. The lines that the controller prints stand after `prints `, where they are printed.
 """
 import re
 import socket

@@ -1,7 +1,7 @@
 #!/usr/bin/env python3
-"""Times pytest's items on four workers, by examples/pytest_items.sh, beside pytest-xdist's `-n 4` on the same project: 20,000
-items of nothing in 400 files, and 300 items of 20 ms. Goals: at most 0.6 and 1.0 times the time of pytest-xdist. Beside the
-300 stand the same items as commands, by examples/pytest.sh.
+"""Times pytest's items on four workers, by examples/pytest_items.sh, beside pytest-xdist's `-n 4` on the same
+project: 20,000 items of nothing in 400 files, and 300 items of 20 ms. Goals: at most 0.6 and 1.0 times the
+time of pytest-xdist. Beside the 300 stand the same items as commands, by examples/pytest.sh.
 
 Usage: bench/pytest_items.py [PROGRAM]   from any folder; PROGRAM is the one of this repository where none is named. The
 runs alternate, and the median of five of each counts. All items have to pass in each.

@@ -1,13 +1,15 @@
-"""A worker of xdrun that is one pytest: it collects once, tells the ids, and runs the items that it is told to run, in
-that order, each with the one after it known, so that fixtures live as long as they do under pytest-xdist.
+"""A worker of xdrun that is one pytest: it collects once, tells the ids, and runs the items that it is told to
+run, in that order, each with the one after it known, so that fixtures live as long as they do under
+pytest-xdist.
 
 Usage: sh pytest_items.sh -n K [WORDS OF XDRUN] [-- WORDS OF PYTEST], which starts K of these, each as
 python3 pytest_worker.py [WORDS OF PYTEST]   with a controller's socket as standard input.
 
-An item is passed, skipped or failed, once: failed where its setup, its call or its teardown failed, with their reports as
-the log; else skipped where one of them skipped it; an expected failure is passed. A collection that fails, or a pytest
-that does not come so far, is a refusal with pytest's words. Where the link ends before the last item, the one that runs is
-interrupted as by Ctrl-C, so that its fixtures are torn down.
+An item is passed, skipped or failed, once: failed where its setup, its call or its teardown failed, with
+their reports as the log; else skipped where one of them skipped it; an expected failure is passed. A
+collection that fails, or a pytest that does not come so far, is a refusal with pytest's words. Where the
+link ends before the last item, the one that runs is interrupted as by Ctrl-C, so that its fixtures are torn
+down.
 """
 import contextlib
 import os
@@ -115,8 +117,8 @@ class Link:
             return self.line.pop(0)
 
     def tests(self, ids):
-        """Tells the ids, and then gives each test that is to run with the one after it, or with END. Neither is in the line
-        any more, so neither is given back."""
+        """Tells the ids, and then gives each test that is to run with the one after it, or with END. Neither
+        is in the line any more, so neither is given back."""
         self.count = len(ids)
         self.event("collectionfinish", ids=items(map(text, ids)))
         test = self.take()
@@ -165,7 +167,8 @@ class Items:
         worker, count, run = (os.environ.get(f"XDRUN_{word}", "") for word in ("WORKER", "WORKERS", "RUN"))
         names = "PYTEST_XDIST_WORKER", "PYTEST_XDIST_WORKER_COUNT", "PYTEST_XDIST_TESTRUNUID"
         os.environ.update(zip(names, (worker, count, run)))
-        config.workerinput = {"workerid": worker, "workercount": int(count or 1), "testrunuid": run, "mainargv": sys.argv}
+        config.workerinput = {"workerid": worker, "workercount": int(count or 1), "testrunuid": run}
+        config.workerinput["mainargv"] = sys.argv
         config.workeroutput = {}
         if hasattr(config.option, "numprocesses"):
             # pytest-xdist is there, and starts no workers of its own.

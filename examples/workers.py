@@ -1,18 +1,21 @@
 #!/usr/bin/env python3
-"""Runs xdrun on workers that are programs of one's own, as many as named, each behind a socket of this machine.
+"""Runs xdrun on workers that are programs of one's own, each behind a socket of this machine.
 
 Usage: python3 workers.py -n K SUITE [WORDS OF XDRUN] -- COMMAND [WORD ..]
 
-Each of the K places holds a port at 127.0.0.1 as long as the run lasts. For each connection of xdrun, one after another,
-it starts COMMAND with the connection as standard input and output; so a worker in place of one that died finds its port
-open. What COMMAND says on standard error is shown where it ends by a signal or with a status that is not 0.
+Each of the K places holds a port at 127.0.0.1 as long as the run lasts. For each connection of xdrun, one
+after another, it starts COMMAND with the connection as standard input and output; so a worker in place of
+one that died finds its port open. What COMMAND says on standard error is shown where it ends by a signal or
+with a status that is not 0.
 
-The variables XDRUN_WORKER, gw0 to the last, XDRUN_WORKERS, their number, and XDRUN_RUN, a name of this run, tell COMMAND
-where it stands; a new worker has the number of its place. XDRUN names the program, where it is not the xdrun
-beside the folder of this script.
+The variables XDRUN_WORKER, gw0 to the last, XDRUN_WORKERS, their number, and XDRUN_RUN, a name of this run,
+tell COMMAND where it stands; a new worker has the number of its place. XDRUN names the program, where it is
+not the xdrun beside the folder of this script.
 
-The status is that of xdrun. Whatever ends this script, Ctrl-C and SIGKILL among it, xdrun ends with it, on Linux; a worker
-has to end where its link ends, and is killed where it has not after some seconds, with all that it started in its session.
+The status is that of xdrun, which ends with this script, on Linux also where that is ended by SIGKILL. A
+worker has to end where its link ends. This script kills one that has not after ten seconds; and what is left
+of a worker's process group ends with the worker. Whoever can connect to a port on this machine can speak to
+its worker.
 """
 import contextlib
 import ctypes
@@ -74,7 +77,7 @@ class Place:
     def work(self, link, said):
         """Lets a worker serve the link to its end, and gives its status."""
         link.setsockopt(socket.IPPROTO_TCP, socket.TCP_NODELAY, 1)
-        # In a session of its own it gets no Ctrl-C: it is told by the end of its link, and what it started ends with it.
+        # In a session of its own it gets no Ctrl-C: the end of its link tells it.
         self.worker = subprocess.Popen(
             self.command, stdin=link, stdout=link, stderr=said, env=self.variables, start_new_session=True
         )
