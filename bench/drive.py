@@ -37,7 +37,7 @@ PROGRAM = """//! Times a run by a file, or counts the memory of its news alone. 
 #![tactic(auto)]
 
 ghost use Rattle.std.specs.Prelude.{◌≡◌, IfSome, None};
-ghost use Rattle.xd_ledger.specs.State.{no_one};
+ghost use Rattle.xd_run.specs.State.{no_one};
 ghost use Rattle.xd_session.specs.Stands.{CanBegin};
 
 use std::alloc::Global;
@@ -545,8 +545,8 @@ def measure(_, is_small=False):
     rows = []
     with tempfile.TemporaryDirectory() as folder:
         crates = (
-            " may_wait=3: xd_drive xd_session xd_report_laws xd_laws xd_report"
-            " xd_load xd_scope xd_steal xd_ledger xd_note xd_journal xd_edge"
+            " may_wait=3: xd_drive xd_session xd_run_laws xd_report"
+            " xd_load xd_scope xd_steal xd_ledger xd_run xd_trace xd_journal xd_edge"
         )
         program = shared.build(folder, "drive_bench", PROGRAM, crates, {"run": ANSWERS})
         for kind in KINDS:

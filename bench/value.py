@@ -1,5 +1,5 @@
 #!/usr/bin/env python3
-"""Times xd_value and xd_loads beside the real execnet, and measures its peak memory.
+"""Times xd_value and xd_value_loads beside the real execnet, and measures its peak memory.
 
 Usage: bench/value.py   from any folder. It builds a small program over both in a temporary repository with rt, as rt run
 builds it, and prints times, ratios and peak memory. Where execnet is not installed (python3-execnet on Debian) its part
@@ -27,7 +27,7 @@ PROGRAM = """//! Reads each payload from a file that an argument names, and writ
 
 use std::time::Instant;
 use std::{env, fs, io};
-use xd_loads::loads;
+use xd_value_loads::loads;
 use xd_value::dumps;
 
 fn main(rt: HostRuntime) -> io::Result<()> {
@@ -300,7 +300,7 @@ def measure(_):
     took, peaks, sizes, compared, bare = {}, {}, {}, [], []
     python = shared.python_with("execnet")
     with tempfile.TemporaryDirectory() as folder:
-        program = shared.build(folder, "value_bench", PROGRAM, ": xd_loads xd_value xd_edge")
+        program = shared.build(folder, "value_bench", PROGRAM, ": xd_value_loads xd_value xd_edge")
         same = shared.in_c(folder, "same_value", SAME_IN_C)
         path = os.path.join(folder, "payload")
         for name, make in CASES:

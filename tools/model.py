@@ -1,7 +1,7 @@
 """A model of a run with workers, written apart from the program and from its definitions.
 
 It knows the rules of pytest-xdist's controller and of its modes as this project has them (the comments in
-crates/xd_ledger/specs say them): which entry a piece of news makes, which outputs follow an entry, when a run stops and
+crates/xd_run/specs say them): which entry a piece of news makes, which outputs follow an entry, when a run stops and
 is over, and what is printed of it. `tables.py` compares the tables that the tests read with what this model says of
 them, or writes them anew.
 

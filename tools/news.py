@@ -1,7 +1,7 @@
 #!/usr/bin/env python3
 """Message lists of a worker's link, and the news that they mean: the rows of a test of gateways.
 
-    python3 tools/news.py > crates/xd_tests_sides/src/remote/rows.rt
+    python3 tools/news.py > crates/xd_tests_sides/src/gateway/rows.rt
 
 The messages are written and read here by the description of the formats in words alone, and no code of the
 program is used. What a list means is told by which channels have ended and which logs have started; there is no table of

@@ -1,11 +1,11 @@
 // What is kept of a run beside where its tests stand.
 ghost use Rattle.std.specs.Prelude.{◌≡◌, true};
-ghost use Rattle.xd_ledger.specs.State.{no_one};
+ghost use Rattle.xd_run.specs.State.{no_one};
 
 use std::alloc::Global;
 use std::marker::Model;
 use xd_journal::{RunStop, Settings};
-use xd_ledger::{Listed, Member};
+use xd_run::{Listed, Member};
 
 /// What the state of a run has beside where its tests stand: whoever was started, the collections that others are
 /// compared with, the counts of failures and deaths, the items at which a worker went down, the first stop, and the
@@ -26,8 +26,8 @@ pub struct Books {
 
 impl Model for Books {
     ghost use Rattle.std.specs.Prelude.{[]};
-    ghost use Rattle.xd_ledger.specs.Books.{Books};
-    ghost use Rattle.xd_ledger.specs.Table.{fresh_table};
+    ghost use Rattle.xd_run.specs.Books.{Books};
+    ghost use Rattle.xd_run.specs.Table.{fresh_table};
 
     ghost Value = { Books };
 

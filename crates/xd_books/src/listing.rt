@@ -1,14 +1,14 @@
 // The collections that others are compared with.
 ghost use Rattle.std.specs.Prelude.{◌≡◌, IfOk, OnErr, OnOk, MatchOption, None, Some};
 ghost use Rattle.xd_journal.specs.declared.entry.Ids.TheVariants as ids;
-ghost use Rattle.xd_ledger.specs.Collections.{differ_at, key, listed, listed_in, with_list};
-ghost use Rattle.xd_ledger.specs.Plan.{is_each};
-ghost use Rattle.xd_ledger.specs.Sharing.{ids_at};
+ghost use Rattle.xd_run.specs.Collections.{differ_at, key, listed, listed_in, with_list};
+ghost use Rattle.xd_run.specs.Plan.{is_each};
+ghost use Rattle.xd_run.specs.Sharing.{ids_at};
 
 use crate::books::Books;
 use std::alloc::Global;
 use xd_edge::{ModeKind, OutOfMemory, Text, copy_texts};
-use xd_ledger::Listed;
+use xd_run::Listed;
 
 pub fn is_each(mode: ModeKind) -> bool
     ensures { result ≡ is_each mode }

@@ -1,11 +1,11 @@
 // The workers of a run, and their marks.
 ghost use Rattle.std.specs.Prelude.{◌≡◌, ◌==◌, ◌&&◌, map, OnOk};
-ghost use Rattle.xd_ledger.specs.Books.{marked};
-ghost use Rattle.xd_ledger.specs.Workers.{begun_at, has_collected, is_active, is_shut, made, slot_in, slot_of, some_active, was_ready};
+ghost use Rattle.xd_run.specs.Books.{marked};
+ghost use Rattle.xd_run.specs.Workers.{begun_at, has_collected, is_active, is_shut, made, slot_in, slot_of, some_active, was_ready};
 
 use crate::books::Books;
 use xd_edge::OutOfMemory;
-use xd_ledger::{Mark, Member};
+use xd_run::{Mark, Member};
 
 // The member with the mark, where it is the worker.
 fn with_mark(m: Member, worker: u32, mark: Mark) -> Member

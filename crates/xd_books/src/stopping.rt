@@ -1,16 +1,16 @@
 // Results and deaths, and why a run stops.
 ghost use Rattle.std.specs.Prelude.{◌≡◌, ◌+◌, ℕ, List, Some, OnOk, IfOk, if◌then◌else◌};
-ghost use Rattle.xd_ledger.specs.Histories.{is_over};
-ghost use Rattle.xd_ledger.specs.Numbers.{first_of, times};
-ghost use Rattle.xd_ledger.specs.Retry.{has_retries, may_restart, retries_first};
-ghost use Rattle.xd_ledger.specs.Deaths.{gone, limited, lost_with};
-ghost use Rattle.xd_ledger.specs.Results.{scored};
-ghost use Rattle.xd_ledger.specs.Stops.{at_limit, is_shutting, is_stopped, out_of_restarts, stopped_by};
+ghost use Rattle.xd_run.specs.Histories.{is_over};
+ghost use Rattle.xd_run.specs.Numbers.{first_of, times};
+ghost use Rattle.xd_run.specs.Retry.{has_retries, may_restart, retries_first};
+ghost use Rattle.xd_run.specs.Deaths.{gone, limited, lost_with};
+ghost use Rattle.xd_run.specs.Results.{scored};
+ghost use Rattle.xd_run.specs.Stops.{at_limit, is_shutting, is_stopped, out_of_restarts, stopped_by};
 
 use crate::books::Books;
 use xd_edge::OutOfMemory;
 use xd_journal::{Outcome, RunStop};
-use xd_ledger::Mark;
+use xd_run::Mark;
 
 // One more. A journal with that many entries would have found no room before.
 fn one_more(count: u32) -> Result<u32, OutOfMemory>
@@ -23,7 +23,7 @@ fn one_more(count: u32) -> Result<u32, OutOfMemory>
 }
 
 // How often an item stands there.
-#[tactic(auto, using(xd_ledger::proofs::Changed::times_counted))]
+#[tactic(auto, using(xd_run::proofs::Changed::times_counted))]
 fn times(item: u64, items: &[u64]) -> usize
     ensures { result ≡ times item items.now }
 {

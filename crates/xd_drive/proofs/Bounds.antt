@@ -11,23 +11,23 @@ use Rattle.xd_journal.specs.declared.entry.Ids.{Ids}
 use Rattle.xd_journal.specs.declared.entry.Ids.TheVariants as ids
 use Rattle.xd_journal.specs.declared.entry.Entry.{Entry}
 use Rattle.xd_journal.specs.declared.entry.Entry.TheVariants.{Ready, Collected, Done, Back, Finished, Refused, Down, NotStarted, Start, Run, RunAll, Steal, Shutdown, Kill, Over}
-use Rattle.xd_ledger.specs.declared.member.Listed.{Listed}
-use Rattle.xd_ledger.specs.Numbers.{among, without, all_distinct, all_among, times}
-use Rattle.xd_ledger.specs.Table.{Table, all_items, held}
-use Rattle.xd_ledger.specs.Plan.{Plan, base, is_each, items_named, slot_items, total}
-use Rattle.xd_ledger.specs.Books.{marked}
-use Rattle.xd_ledger.specs.Workers.{is_active, was_ready, has_collected, made_collected}
-use Rattle.xd_ledger.specs.Collections.{ids_of, key, listed, listed_in, lists_with, unequal, with_list}
-use Rattle.xd_ledger.specs.Sharing.{State, in_books, ids_at, shared_now, sizes_from}
-use Rattle.xd_ledger.specs.State.{after_effect}
+use Rattle.xd_run.specs.declared.member.Listed.{Listed}
+use Rattle.xd_run.specs.Numbers.{among, without, all_distinct, all_among, times}
+use Rattle.xd_run.specs.Table.{Table, all_items, held}
+use Rattle.xd_run.specs.Plan.{Plan, base, is_each, items_named, slot_items, total}
+use Rattle.xd_run.specs.Books.{marked}
+use Rattle.xd_run.specs.Workers.{is_active, was_ready, has_collected, made_collected}
+use Rattle.xd_run.specs.Collections.{ids_of, key, listed, listed_in, lists_with, unequal, with_list}
+use Rattle.xd_run.specs.Sharing.{State, in_books, ids_at, shared_now, sizes_from}
+use Rattle.xd_run.specs.State.{after_effect}
 use Rattle.xd_edge.specs.Limits.{most_tests}
 use Rattle.xd_edge.specs.Ids.{is_id}
-use Rattle.xd_ledger.specs.Proper.{are_ids, may_follow, no_text_twice}
-use Rattle.xd_laws.proofs.Logic.{differ, split-and}
-use Rattle.xd_laws.proofs.Counts.{among-filter, among-times, among_of-all_among, all_among-of, times-among}
-use Rattle.xd_laws.proofs.Inputs.{collecting-keeps}
-use Rattle.xd_laws.proofs.Placed.{Placed, due_times}
-use Rattle.xd_laws.proofs.Places.{held-within, times-table}
+use Rattle.xd_run.specs.Proper.{are_ids, may_follow, no_text_twice}
+use Rattle.xd_run_laws.proofs.Logic.{differ, split-and}
+use Rattle.xd_run_laws.proofs.Counts.{among-filter, among-times, among_of-all_among, all_among-of, times-among}
+use Rattle.xd_run_laws.proofs.Inputs.{collecting-keeps}
+use Rattle.xd_run_laws.proofs.Placed.{Placed, due_times}
+use Rattle.xd_run_laws.proofs.Places.{held-within, times-table}
 
 -- the settings stay, and no collection has more tests than a run may have
 pub record Bounded (settings : Settings) (s : State) : Type 0 where
@@ -89,7 +89,7 @@ bounded-collected settings s w g h k =
       whole = k.whole;
       lists = λ slot. with-more slot (listed w s.books) (record { slot = key w s.books; worker = w; ids = ids_of g }) s.books.lists (k.lists slot) few;
     } in
-    let joined : Bounded settings (in_books (λ b. record b { table = Rattle.xd_ledger.specs.Table.joined w b.table }) now) = record { settings_are = one.settings_are; sizes = one.sizes; whole = one.whole; lists = one.lists } in
+    let joined : Bounded settings (in_books (λ b. record b { table = Rattle.xd_run.specs.Table.joined w b.table }) now) = record { settings_are = one.settings_are; sizes = one.sizes; whole = one.whole; lists = one.lists } in
     collecting-keeps (Bounded settings) now w (unequal w g (listed w s.books)) one
     (record { settings_are = one.settings_are; sizes = one.sizes; whole = one.whole; lists = one.lists }) joined (λ n. bounded-shared settings _ joined)
 
@@ -129,8 +129,8 @@ distinct-few [] ys d a = omega arith
 distinct-few (x ∷ xs) ys d a =
     let p = split-and (not (among x xs)) (all_distinct xs) d in
     let q = split-and (among x ys) (all_among xs ys) a in
-    let other : among x xs ≡ false = Rattle.xd_laws.proofs.Logic.not_true (among x xs) p.0 in
-    let rest : all_among xs (without (x ∷ []) ys) ≡ true = all_among-of xs (without (x ∷ []) ys) (λ y h. among-filter y (λ z. not (among z (x ∷ []))) ys ∙ Rattle.xd_laws.proofs.Logic.and (not_head x y xs other h) (among_of-all_among y xs ys q.1 h)) in
+    let other : among x xs ≡ false = Rattle.xd_run_laws.proofs.Logic.not_true (among x xs) p.0 in
+    let rest : all_among xs (without (x ∷ []) ys) ≡ true = all_among-of xs (without (x ∷ []) ys) (λ y h. among-filter y (λ z. not (among z (x ∷ []))) ys ∙ Rattle.xd_run_laws.proofs.Logic.and (not_head x y xs other h) (among_of-all_among y xs ys q.1 h)) in
     omega (arith, distinct-few xs (without (x ∷ []) ys) p.1 rest, without-one x ys q.0)
 
 -- items

@@ -8,16 +8,16 @@ use Rattle.xd_journal.specs.declared.news.News.{News}
 use Rattle.xd_journal.specs.declared.journal.Journal.{Journal}
 use Rattle.xd_journal.specs.declared.entry.Entry.{Entry}
 use Rattle.xd_journal.specs.declared.entry.Entry.TheVariants.{Over}
-use Rattle.xd_ledger.specs.Books.{Books}
-use Rattle.xd_ledger.specs.Ending.{ending, may_close, stop_of}
-use Rattle.xd_ledger.specs.Histories.{after_starts, run_end_of, journal_of, after_inputs}
-use Rattle.xd_ledger.specs.Legal.{IsLegal}
-use Rattle.xd_ledger.specs.Proper.{IsProper}
-use Rattle.xd_ledger.specs.Sharing.{State}
-use Rattle.xd_laws.specs.Whole.{IsWhole}
-use Rattle.xd_laws.proofs.Whole.{names-whole}
+use Rattle.xd_run.specs.Books.{Books}
+use Rattle.xd_run.specs.Ending.{ending, may_close, stop_of}
+use Rattle.xd_run.specs.Histories.{after_starts, run_end_of, journal_of, after_inputs}
+use Rattle.xd_run.specs.Legal.{IsLegal}
+use Rattle.xd_run.specs.Proper.{IsProper}
+use Rattle.xd_run.specs.Sharing.{State}
+use Rattle.xd_run_laws.specs.Whole.{IsWhole}
+use Rattle.xd_run_laws.proofs.Whole.{names-whole}
 use Rattle.xd_report.specs.Text.{run_text, text_of}
-use Rattle.xd_report_laws.proofs.Named.{names-items}
+use Rattle.xd_drive.proofs.Named.{names-items}
 use Rattle.xd_session.specs.Bounded.{IsBounded}
 use Rattle.xd_session.specs.Ends.{last_stop}
 use Rattle.xd_session.specs.History.{run_of}

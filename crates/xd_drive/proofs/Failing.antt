@@ -8,7 +8,7 @@ use Rattle.xd_edge.proofs.SinkLemmas.{printed_part_of_more}
 use Rattle.xd_journal.specs.declared.settings.Settings.{Settings}
 use Rattle.xd_journal.specs.declared.entry.Entry.{Entry}
 use Rattle.xd_journal.specs.declared.news.News.{News}
-use Rattle.xd_ledger.specs.State.{after_entries, no_one}
+use Rattle.xd_run.specs.State.{after_entries, no_one}
 use Rattle.xd_report.specs.Lines.{lines_from, run_lines}
 use Rattle.xd_report.specs.Text.{run_tail, run_text}
 use Rattle.xd_session.specs.History.{run_of}

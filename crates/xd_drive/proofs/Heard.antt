@@ -5,16 +5,16 @@ use Rattle.std.proofs.lemmas.Bool.Decides.{nat_tests}
 use Rattle.xd_journal.specs.declared.news.News.{News}
 use Rattle.xd_journal.specs.declared.entry.Entry.{Entry}
 use Rattle.xd_journal.specs.declared.entry.Entry.TheVariants.{Ready, Collected, Done, Back, Finished, Refused, Down, NotStarted, Start, Run, RunAll, Steal, Shutdown, Kill, Over}
-use Rattle.xd_ledger.specs.declared.member.Member.{Member}
-use Rattle.xd_ledger.specs.Books.{Books, marked}
-use Rattle.xd_ledger.specs.Workers.{is_active, made_ready, made_collected, made_gone}
-use Rattle.xd_ledger.specs.Collections.{unequal, listed, with_list}
-use Rattle.xd_ledger.specs.Sharing.{State, in_books}
-use Rattle.xd_ledger.specs.State.{after_effect}
-use Rattle.xd_ledger.specs.Proper.{may_follow}
-use Rattle.xd_laws.proofs.Logic.{differ, split-and, split-or, cases_of}
-use Rattle.xd_laws.proofs.Members.{has, is_member, has-member, has-same, has-set, has-cleared}
-use Rattle.xd_laws.proofs.Inputs.{collecting-keeps}
+use Rattle.xd_run.specs.declared.member.Member.{Member}
+use Rattle.xd_run.specs.Books.{Books, marked}
+use Rattle.xd_run.specs.Workers.{is_active, made_ready, made_collected, made_gone}
+use Rattle.xd_run.specs.Collections.{unequal, listed, with_list}
+use Rattle.xd_run.specs.Sharing.{State, in_books}
+use Rattle.xd_run.specs.State.{after_effect}
+use Rattle.xd_run.specs.Proper.{may_follow}
+use Rattle.xd_run_laws.proofs.Logic.{differ, split-and, split-or, cases_of}
+use Rattle.xd_run_laws.proofs.Members.{has, is_member, has-member, has-same, has-set, has-cleared}
+use Rattle.xd_run_laws.proofs.Inputs.{collecting-keeps}
 use Rattle.xd_drive.specs.Agrees.{Agrees}
 use Rattle.xd_journal.specs.Said.{is_end, is_ready}
 use Rattle.xd_drive.specs.Marks.{Marks, marked_heard}

@@ -12,10 +12,10 @@ use Rattle.xd_journal.specs.declared.settings.Settings.{Settings}
 use Rattle.xd_journal.specs.declared.entry.Entry.{Entry}
 use Rattle.xd_journal.specs.declared.journal.Journal.{Journal}
 use Rattle.xd_journal.specs.declared.news.News.{News}
-use Rattle.xd_ledger.specs.Ending.{ending}
+use Rattle.xd_run.specs.Ending.{ending}
 use Rattle.xd_report.specs.Lines.{run_lines}
 use Rattle.xd_session.specs.Stands.{SessionSeen, StandsForNews, state_of}
-use Rattle.xd_laws.proofs.Logic.{cases_of}
+use Rattle.xd_run_laws.proofs.Logic.{cases_of}
 use Rattle.xd_drive.specs.declared.written.Written.{Written}
 use Rattle.xd_drive.specs.declared.written.Written.TheVariants.{Whole, Broken}
 use Rattle.xd_drive.specs.Going.{EndsRun, EndsTail, Going, HubScene, TakesNews}

@@ -3,7 +3,7 @@ use Rattle.std.proofs.Common.{◌≡◌, List, [], ◌∷◌, ◌++◌, false, r
 use Rattle.std.specs.Prelude.{◌⊎◌}
 use Rattle.xd_journal.specs.declared.settings.Settings.{Settings}
 use Rattle.xd_journal.specs.declared.news.News.{News}
-use Rattle.xd_ledger.specs.Histories.{is_over}
+use Rattle.xd_run.specs.Histories.{is_over}
 use Rattle.xd_session.specs.History.{run_of}
 use Rattle.xd_drive.specs.Taken.{AreInTime, taken_of}
 

@@ -5,14 +5,14 @@ use Rattle.std.proofs.lemmas.List.Folds.{list_all-append}
 use Rattle.xd_journal.specs.declared.entry.Entry.{Entry}
 use Rattle.xd_journal.specs.declared.entry.Entry.TheVariants.{Ready, Collected, Done, Back, Finished, Refused, Down, NotStarted, Start, Run, RunAll, Steal, Shutdown, Kill, Over}
 use Rattle.xd_journal.specs.declared.news.News.{News}
-use Rattle.xd_ledger.specs.Ending.{ending}
-use Rattle.xd_ledger.specs.Meaning.{spent_by}
+use Rattle.xd_run.specs.Ending.{ending}
+use Rattle.xd_run.specs.Meaning.{spent_by}
 use Rattle.xd_session.specs.Bounded.{IsBounded, keeps_few}
 use Rattle.xd_session.specs.Stands.{SessionSeen, StandsForNews, state_of}
 use Rattle.xd_session.proofs.Bounds.{bounded-run}
 use Rattle.xd_session.proofs.Lawful.{stands-proper}
 use Rattle.xd_session.proofs.Steps.{spent-append}
-use Rattle.xd_laws.proofs.Logic.{and, differ}
+use Rattle.xd_run_laws.proofs.Logic.{and, differ}
 use Rattle.xd_drive.proofs.Texts.{silent, silent-ending}
 
 -- a kill or the end keeps nothing

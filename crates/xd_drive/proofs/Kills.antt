@@ -7,14 +7,14 @@ use Rattle.xd_journal.specs.declared.news.News.{News}
 use Rattle.xd_journal.specs.declared.entry.RunStop.TheVariants.{OutFault}
 use Rattle.xd_journal.specs.declared.entry.Entry.{Entry}
 use Rattle.xd_journal.specs.declared.entry.Entry.TheVariants.{Ready, Collected, Done, Back, Finished, Refused, Down, NotStarted, Start, Run, RunAll, Steal, Shutdown, Kill, Over}
-use Rattle.xd_ledger.specs.declared.member.Member.{Member}
-use Rattle.xd_ledger.specs.Books.{Books}
-use Rattle.xd_ledger.specs.Ending.{ending}
-use Rattle.xd_ledger.specs.Numbers.{all_distinct, among}
-use Rattle.xd_ledger.specs.Proper.{IsProper}
+use Rattle.xd_run.specs.declared.member.Member.{Member}
+use Rattle.xd_run.specs.Books.{Books}
+use Rattle.xd_run.specs.Ending.{ending}
+use Rattle.xd_run.specs.Numbers.{all_distinct, among}
+use Rattle.xd_run.specs.Proper.{IsProper}
 use Rattle.xd_session.specs.History.{run_of}
-use Rattle.xd_laws.proofs.Logic.{and, cases_of, differ, not_true, or-left, or-right, split-and}
-use Rattle.xd_laws.proofs.Members.{distinct-numbered, has, has-member, numbers}
+use Rattle.xd_run_laws.proofs.Logic.{and, cases_of, differ, not_true, or-left, or-right, split-and}
+use Rattle.xd_run_laws.proofs.Members.{distinct-numbered, has, has-member, numbers}
 use Rattle.xd_drive.specs.Agrees.{Agrees}
 use Rattle.xd_drive.specs.Marks.{Marks}
 use Rattle.xd_drive.specs.Performing.{marks_after, marks_after_entry, all_possible, kills_of_started, possible, was_started}

@@ -1,16 +1,20 @@
 pub mod Bounds
 pub mod Driven
 pub mod Failing
+pub mod Failures
 pub mod Follow
 pub mod Heard
+pub mod Ids
 pub mod InOrder
 pub mod InTime
 pub mod Kept
 pub mod Kills
 pub mod Loop
+pub mod Named
 pub mod NextListed
 pub mod Outs
 pub mod Performs
+mod Rows
 pub mod Runs
 mod Status
 pub mod Stepped

@@ -14,18 +14,18 @@ use Rattle.xd_journal.specs.declared.news.News.{News}
 use Rattle.xd_journal.specs.declared.entry.Entry.{Entry}
 use Rattle.xd_journal.specs.declared.entry.Entry.TheVariants.{Start}
 use Rattle.xd_journal.specs.declared.journal.Journal.{Journal}
-use Rattle.xd_ledger.specs.Workers.{started, is_active}
-use Rattle.xd_ledger.specs.Sharing.{State}
-use Rattle.xd_ledger.specs.State.{after_entries, after_effect, after_entry, no_one, reached}
-use Rattle.xd_ledger.specs.Ending.{ending}
-use Rattle.xd_ledger.specs.Histories.{after_starts, first_starts, is_over, starts_from}
-use Rattle.xd_ledger.specs.Proper.{IsProper}
+use Rattle.xd_run.specs.Workers.{started, is_active}
+use Rattle.xd_run.specs.Sharing.{State}
+use Rattle.xd_run.specs.State.{after_entries, after_effect, after_entry, no_one, reached}
+use Rattle.xd_run.specs.Ending.{ending}
+use Rattle.xd_run.specs.Histories.{after_starts, first_starts, is_over, starts_from}
+use Rattle.xd_run.specs.Proper.{IsProper}
 use Rattle.xd_report.specs.Lines.{lines_from, lines_of, run_lines}
 use Rattle.xd_report.specs.Text.{run_tail, run_text, tail_text}
 use Rattle.xd_session.specs.History.{run_of}
 use Rattle.xd_session.specs.Stands.{SessionSeen, StandsForNews, state_of}
-use Rattle.xd_laws.proofs.Logic.{and, cases_of, differ}
-use Rattle.xd_laws.proofs.Members.{has}
+use Rattle.xd_run_laws.proofs.Logic.{and, cases_of, differ}
+use Rattle.xd_run_laws.proofs.Members.{has}
 use Rattle.xd_drive.specs.declared.written.Written.{Written}
 use Rattle.xd_drive.specs.declared.written.Written.TheVariants.{Whole, Broken}
 use Rattle.xd_drive.specs.Agrees.{Agrees}
@@ -232,7 +232,7 @@ going-first s slots old new l st fresh performed marks given sunk =
       stands = st;
       gave = subst (λ (x : Option (List News)). AddsAll [] old.given x) (sym given) (adds-none old.given);
       performed = performed;
-      agrees = subst (λ (es : List Entry). Agrees (Rattle.xd_ledger.specs.State.state_at s.settings es).books new.marks) (sym st.entries) (subst (λ (f : ℕ → Marks). Agrees (after_starts s.settings).books f) (sym m)
+      agrees = subst (λ (es : List Entry). Agrees (Rattle.xd_run.specs.State.state_at s.settings es).books new.marks) (sym st.entries) (subst (λ (f : ℕ → Marks). Agrees (after_starts s.settings).books f) (sym m)
           (record { started = b.agrees.started; killed = b.agrees.killed; ended = b.agrees.ended; ready = b.agrees.ready }));
       started = λ w. ap (λ (x : Marks). x.started) (marks w) ∙ started-by s.entries old.marks w ∙ ap (λ (x : Marks). x.started || was_started w s.entries) (fresh w);
       in_time = in-time-none s.settings;

@@ -7,35 +7,35 @@ use Rattle.std.proofs.lemmas.List.Folds.{list_all-append}
 use Rattle.xd_journal.specs.declared.settings.Settings.{Settings}
 use Rattle.xd_journal.specs.declared.entry.Entry.{Entry}
 use Rattle.xd_journal.specs.declared.entry.Entry.TheVariants.{Ready, Collected, Done, Back, Finished, Refused, Down, NotStarted, Start, Run, RunAll, Steal, Shutdown, Kill, Over}
-use Rattle.xd_ledger.specs.declared.member.Member.{Member}
-use Rattle.xd_ledger.specs.Numbers.{all_distinct, all_among}
+use Rattle.xd_run.specs.declared.member.Member.{Member}
+use Rattle.xd_run.specs.Numbers.{all_distinct, all_among}
 use Rattle.xd_edge.specs.declared.mode.ModeKind.{ModeKind}
 use Rattle.xd_edge.specs.declared.mode.ModeKind.TheVariants.{Local, Each, Load, LoadScope, LoadFile, LoadGroup, WorkSteal}
-use Rattle.xd_ledger.specs.Table.{assigned, held, in_rota, seat_shut, workers_of}
-use Rattle.xd_ledger.specs.Plan.{is_each, items_named, slot_items}
-use Rattle.xd_ledger.specs.Turn.{Turn, shut}
-use Rattle.xd_ledger.specs.Each as each
-use Rattle.xd_ledger.specs.Modes.{ModeCall, turned, each_turn}
-use Rattle.xd_ledger.specs.Modes.ModeCall.{Share, Joined, TestDone, TestsBack, Died}
-use Rattle.xd_ledger.specs.Books.{Books}
-use Rattle.xd_ledger.specs.Workers.{has_member, is_active, was_ready, is_shut, slot_of, started, waiting, made_shut}
-use Rattle.xd_ledger.specs.Stops.{is_stopped, is_shutting}
-use Rattle.xd_ledger.specs.Sharing.{State}
-use Rattle.xd_ledger.specs.State.{after_effect, after_entries, settles}
-use Rattle.xd_ledger.specs.Outputs.{acts_of, outputs_of_death, outputs_of_joining, closing, outputs, own_outputs, shut_all, slots_of_rota, turn_of, unless_stopped}
+use Rattle.xd_run.specs.Table.{assigned, held, in_rota, seat_shut, workers_of}
+use Rattle.xd_run.specs.Plan.{is_each, items_named, slot_items}
+use Rattle.xd_run.specs.Turn.{Turn, shut}
+use Rattle.xd_run.specs.Each as each
+use Rattle.xd_run.specs.Modes.{ModeCall, turned, each_turn}
+use Rattle.xd_run.specs.Modes.ModeCall.{Share, Joined, TestDone, TestsBack, Died}
+use Rattle.xd_run.specs.Books.{Books}
+use Rattle.xd_run.specs.Workers.{has_member, is_active, was_ready, is_shut, slot_of, started, waiting, made_shut}
+use Rattle.xd_run.specs.Stops.{is_stopped, is_shutting}
+use Rattle.xd_run.specs.Sharing.{State}
+use Rattle.xd_run.specs.State.{after_effect, after_entries, settles}
+use Rattle.xd_run.specs.Outputs.{acts_of, outputs_of_death, outputs_of_joining, closing, outputs, own_outputs, shut_all, slots_of_rota, turn_of, unless_stopped}
 use Rattle.xd_edge.specs.Limits.{most_tests}
-use Rattle.xd_ledger.specs.Proper.{may_follow}
-use Rattle.xd_ledger.specs.Orderly.{is_in_order, all_orderly, is_orderly, may_run, not_empty}
-use Rattle.xd_laws.proofs.Logic.{and, cases_of, differ, in_both, not_true, split-and, split-or}
-use Rattle.xd_laws.proofs.Members.{has, has-more, has-same}
-use Rattle.xd_laws.proofs.Counts.{all_among-drop}
-use Rattle.xd_laws.proofs.Placed.{Placed, placed-output}
-use Rattle.xd_laws.proofs.Turns.{after_entries-first}
+use Rattle.xd_run.specs.Proper.{may_follow}
+use Rattle.xd_run.specs.Orderly.{is_in_order, all_orderly, is_orderly, may_run, not_empty}
+use Rattle.xd_run_laws.proofs.Logic.{and, cases_of, differ, in_both, not_true, split-and, split-or}
+use Rattle.xd_run_laws.proofs.Members.{has, has-more, has-same}
+use Rattle.xd_run_laws.proofs.Counts.{all_among-drop}
+use Rattle.xd_run_laws.proofs.Placed.{Placed, placed-output}
+use Rattle.xd_run_laws.proofs.Turns.{after_entries-first}
 use Rattle.xd_drive.specs.Agrees.{Agrees}
 use Rattle.xd_drive.specs.Marks.{Marks, may_tell}
 use Rattle.xd_drive.specs.Performing.{marks_after, marks_after_entry, all_possible, possible}
 use Rattle.xd_drive.proofs.Bounds.{Bounded, few-of_held, few-of_pool, few-of_slot, named-few}
-use Rattle.xd_rules.proofs.Orders.{Tells, tells, tells-acts}
+use Rattle.xd_session_rules.proofs.Orders.{Tells, tells, tells-acts}
 
 -- an order, or a start at a slot below the limit
 abbrev pub plain : Bool → ℕ → Entry → Bool

@@ -5,7 +5,7 @@ use Rattle.std.proofs.Math.Path.{fun_ext}
 use Rattle.std.proofs.lemmas.List.{append-nil, take-append-drop, take_more}
 use Rattle.std.proofs.lemmas.List.Elements.{filter-append}
 use Rattle.xd_journal.specs.declared.entry.Entry.{Entry}
-use Rattle.xd_laws.proofs.Logic.{split-and}
+use Rattle.xd_run_laws.proofs.Logic.{split-and}
 use Rattle.xd_drive.specs.Marks.{Marks}
 use Rattle.xd_drive.specs.Performing.{AddsAll, Performs, marks_after, marks_after_entry, all_possible, calls_in, is_call, is_start, possible, starts_in}
 

@@ -13,31 +13,31 @@ use Rattle.xd_journal.specs.declared.entry.Ids.{Ids}
 use Rattle.xd_journal.specs.declared.entry.Ids.TheVariants as ids
 use Rattle.xd_journal.specs.declared.entry.Entry.{Entry}
 use Rattle.xd_journal.specs.declared.entry.Entry.TheVariants.{Ready, Collected, Done, Back, Finished, Refused, Down, NotStarted}
-use Rattle.xd_ledger.specs.declared.member.Listed.{Listed}
-use Rattle.xd_ledger.specs.Plan.{is_scope}
-use Rattle.xd_ledger.specs.Workers.{is_active}
-use Rattle.xd_ledger.specs.Collections.{listed, differ_at}
-use Rattle.xd_ledger.specs.Sharing.{State}
-use Rattle.xd_ledger.specs.State.{settled, after_effect, after_entries, no_one, state_at}
-use Rattle.xd_ledger.specs.Outputs.{outputs, after_input}
-use Rattle.xd_ledger.specs.Histories.{after_starts, after_inputs}
-use Rattle.xd_ledger.specs.Proper.{IsProper, may_follow, all_may_follow, names_head, has_workers}
-use Rattle.xd_ledger.specs.Orderly.{all_orderly}
-use Rattle.xd_ledger.specs.Meaning.{Log, log_of, spent_by, is_of, any_open, output_of, given_ids, breach, or_breach, silent_or_breach, meaning_of}
+use Rattle.xd_run.specs.declared.member.Listed.{Listed}
+use Rattle.xd_run.specs.Plan.{is_scope}
+use Rattle.xd_run.specs.Workers.{is_active}
+use Rattle.xd_run.specs.Collections.{listed, differ_at}
+use Rattle.xd_run.specs.Sharing.{State}
+use Rattle.xd_run.specs.State.{settled, after_effect, after_entries, no_one, state_at}
+use Rattle.xd_run.specs.Outputs.{outputs, after_input}
+use Rattle.xd_run.specs.Histories.{after_starts, after_inputs}
+use Rattle.xd_run.specs.Proper.{IsProper, may_follow, all_may_follow, names_head, has_workers}
+use Rattle.xd_run.specs.Orderly.{all_orderly}
+use Rattle.xd_run.specs.Meaning.{Log, log_of, spent_by, is_of, any_open, output_of, given_ids, breach, or_breach, silent_or_breach, meaning_of}
 use Rattle.xd_session.specs.History.{Run as TheRun, begun_run, after_news, input_of, run_of, said_by, entries_with, state_with, inputs_with}
-use Rattle.xd_laws.proofs.Logic.{differ, split-and, and, in_both, cases_of}
-use Rattle.xd_laws.proofs.Turns.{Tidy}
-use Rattle.xd_laws.proofs.Rule.{Rule}
-use Rattle.xd_laws.proofs.Outputs.{outputs-fit}
-use Rattle.xd_laws.proofs.Runs.{begun-holds, all-hold}
-use Rattle.xd_laws.proofs.Walk.{input-of}
-use Rattle.xd_laws.proofs.InMode.{InMode}
-use Rattle.xd_laws.proofs.LoadRule.{load_rule}
-use Rattle.xd_laws.proofs.StealRule.{steal_rule}
-use Rattle.xd_laws.proofs.EachRule.{each_rule}
-use Rattle.xd_laws.proofs.ScopeInputs.{Scoped}
-use Rattle.xd_laws.proofs.ScopeRule.{scope_rule, scoped-none}
-use Rattle.xd_rules.proofs.Closing.{state-grown}
+use Rattle.xd_run_laws.proofs.Logic.{differ, split-and, and, in_both, cases_of}
+use Rattle.xd_run_laws.proofs.Turns.{Tidy}
+use Rattle.xd_run_laws.proofs.Rule.{Rule}
+use Rattle.xd_run_laws.proofs.Outputs.{outputs-fit}
+use Rattle.xd_run_laws.proofs.Runs.{begun-holds, all-hold}
+use Rattle.xd_run_laws.proofs.Walk.{input-of}
+use Rattle.xd_run_laws.proofs.InMode.{InMode}
+use Rattle.xd_run_laws.proofs.LoadRule.{load_rule}
+use Rattle.xd_run_laws.proofs.StealRule.{steal_rule}
+use Rattle.xd_run_laws.proofs.EachRule.{each_rule}
+use Rattle.xd_run_laws.proofs.ScopeInputs.{Scoped}
+use Rattle.xd_run_laws.proofs.ScopeRule.{scope_rule, scoped-none}
+use Rattle.xd_session_rules.proofs.Closing.{state-grown}
 use Rattle.xd_journal.specs.Said.{is_ready, is_end}
 
 -- the worker leaves by this entry

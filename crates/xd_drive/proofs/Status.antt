@@ -2,13 +2,13 @@
 use Rattle.std.proofs.Common.{◌≡◌, ℕ, [], ◌++◌, false, sym, ◌∙◌, ap, subst}
 use Rattle.xd_journal.specs.declared.journal.Journal.{Journal}
 use Rattle.xd_journal.specs.declared.settings.Settings.{Settings}
-use Rattle.xd_ledger.specs.Ending.{ending, stop_of}
-use Rattle.xd_ledger.specs.Histories.{run_end_of}
-use Rattle.xd_ledger.specs.Proper.{IsProper}
-use Rattle.xd_ledger.specs.State.{after_entries, no_one}
+use Rattle.xd_run.specs.Ending.{ending, stop_of}
+use Rattle.xd_run.specs.Histories.{run_end_of}
+use Rattle.xd_run.specs.Proper.{IsProper}
+use Rattle.xd_run.specs.State.{after_entries, no_one}
 use Rattle.xd_report.specs.Status.{status_in, status_of}
 use Rattle.xd_report.proofs.Failures.{status-over}
-use Rattle.xd_report_laws.proofs.Failures.{failures-whole}
+use Rattle.xd_drive.proofs.Failures.{failures-whole}
 use Rattle.xd_session.specs.Ends.{last_stop}
 use Rattle.xd_session.specs.Stands.{SessionSeen, state_of}
 use Rattle.xd_drive.specs.declared.written.Written.{Written}

@@ -10,18 +10,18 @@ use Rattle.xd_journal.specs.declared.news.News.{News}
 use Rattle.xd_journal.specs.declared.entry.Entry.{Entry}
 use Rattle.xd_journal.specs.declared.entry.Entry.TheVariants.{Start, Kill}
 use Rattle.xd_journal.specs.declared.journal.Journal.{Journal}
-use Rattle.xd_ledger.specs.Books.{Books}
-use Rattle.xd_ledger.specs.Ending.{ending}
-use Rattle.xd_ledger.specs.Workers.{has_member, is_active}
-use Rattle.xd_ledger.specs.Sharing.{State}
-use Rattle.xd_ledger.specs.State.{after_entries, no_one, state_at}
-use Rattle.xd_ledger.specs.Proper.{IsProper}
+use Rattle.xd_run.specs.Books.{Books}
+use Rattle.xd_run.specs.Ending.{ending}
+use Rattle.xd_run.specs.Workers.{has_member, is_active}
+use Rattle.xd_run.specs.Sharing.{State}
+use Rattle.xd_run.specs.State.{after_entries, no_one, state_at}
+use Rattle.xd_run.specs.Proper.{IsProper}
 use Rattle.xd_report.specs.declared.reporter.Reporter.{Reporter}
 use Rattle.xd_report.specs.Follows.{Follows}
 use Rattle.xd_report.specs.Lines.{lines_between, lines_from}
 use Rattle.xd_session.specs.History.{Run as TheRun, input_of, run_of}
 use Rattle.xd_session.specs.Stands.{SessionSeen, StandsForNews, state_of}
-use Rattle.xd_laws.proofs.Logic.{split-and, split-or}
+use Rattle.xd_run_laws.proofs.Logic.{split-and, split-or}
 use Rattle.xd_drive.specs.declared.written.Written.TheVariants.{Whole, Broken}
 use Rattle.xd_drive.specs.Agrees.{Agrees}
 use Rattle.xd_drive.specs.Going.{HubScene, TakesNews, TellsEntries, added_by}

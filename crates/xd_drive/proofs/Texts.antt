@@ -10,21 +10,21 @@ use Rattle.xd_journal.specs.declared.entry.RunStop.{RunStop}
 use Rattle.xd_journal.specs.declared.entry.RunStop.TheVariants.{Completed, MaxFail, Restarts, Unequal, CollectError, OutFault}
 use Rattle.xd_journal.specs.declared.entry.Entry.{Entry}
 use Rattle.xd_journal.specs.declared.entry.Entry.TheVariants.{Ready, Collected, Done, Back, Finished, Refused, Down, NotStarted, Start, Run, RunAll, Steal, Shutdown, Kill, Over}
-use Rattle.xd_ledger.specs.declared.member.Member.{Member}
-use Rattle.xd_ledger.specs.Books.{Books}
-use Rattle.xd_ledger.specs.Sharing.{State}
-use Rattle.xd_ledger.specs.State.{after_entries, after_entry, no_one, reached, settled, state_at}
-use Rattle.xd_ledger.specs.Workers.{started}
-use Rattle.xd_ledger.specs.Ending.{ending}
-use Rattle.xd_ledger.specs.Histories.{first_starts, starts_from}
+use Rattle.xd_run.specs.declared.member.Member.{Member}
+use Rattle.xd_run.specs.Books.{Books}
+use Rattle.xd_run.specs.Sharing.{State}
+use Rattle.xd_run.specs.State.{after_entries, after_entry, no_one, reached, settled, state_at}
+use Rattle.xd_run.specs.Workers.{started}
+use Rattle.xd_run.specs.Ending.{ending}
+use Rattle.xd_run.specs.Histories.{first_starts, starts_from}
 use Rattle.xd_report.specs.declared.counts.Counts.{Counts}
 use Rattle.xd_report.specs.Blocks.{block_of, blocks_from}
 use Rattle.xd_report.specs.Lines.{last_of_slot, lines_from, lines_of, replacing, run_lines}
-use Rattle.xd_phrases.specs.StopLine.{line_of_stop, refusal}
+use Rattle.xd_report_phrases.specs.StopLine.{line_of_stop, refusal}
 use Rattle.xd_report.specs.Summary.{counted, counted_from, counts, summary_text}
 use Rattle.xd_report.specs.Tests.{mode_of}
 use Rattle.xd_report.specs.Text.{run_tail, run_text, tail_text, text_of}
-use Rattle.xd_laws.proofs.Logic.{differ, split-and}
+use Rattle.xd_run_laws.proofs.Logic.{differ, split-and}
 
 pub text-is : (j : Journal) (x : Settings) (es : List Entry) → j.settings ≡ x → j.entries.items ≡ es → text_of j ≡ run_text x es
 text-is j x es a b = ap (λ (y : Settings). run_text y j.entries.items) a ∙ ap (run_text x) b
@@ -145,7 +145,7 @@ module _ (ys : List Entry) (h : list_all silent ys ≡ true) where
   stop-following mode xs (Some (MaxFail count)) = refl
   stop-following mode xs (Some (Restarts w limit)) = refl
   stop-following mode xs (Some (Unequal w other place)) = refl
-  stop-following mode xs (Some (CollectError w)) = ap (λ (l : List ℕ). Rattle.xd_phrases.specs.StopLine.refused_line mode w l) (refusal-following w xs)
+  stop-following mode xs (Some (CollectError w)) = ap (λ (l : List ℕ). Rattle.xd_report_phrases.specs.StopLine.refused_line mode w l) (refusal-following w xs)
   stop-following mode xs (Some OutFault) = refl
 
   pub tail-following : (x : Settings) (xs : List Entry) → run_tail x (xs ++ ys) ≡ run_tail x xs

@@ -8,18 +8,18 @@ use Rattle.xd_journal.specs.declared.settings.Settings.{Settings}
 use Rattle.xd_journal.specs.declared.news.News.{News}
 use Rattle.xd_journal.specs.declared.entry.Entry.{Entry}
 use Rattle.xd_journal.specs.declared.entry.Entry.TheVariants.{Ready, Collected, Done, Back, Finished, Refused, Down, NotStarted, Start, Run, RunAll, Steal, Shutdown, Kill, Over}
-use Rattle.xd_ledger.specs.Workers.{has_member, is_active, slot_of}
-use Rattle.xd_ledger.specs.Sharing.{State}
-use Rattle.xd_ledger.specs.State.{after_effect, after_entries, no_one, settled}
-use Rattle.xd_ledger.specs.Outputs.{outputs}
-use Rattle.xd_ledger.specs.Histories.{first_starts, starts_from}
-use Rattle.xd_ledger.specs.Proper.{IsProper, may_follow}
-use Rattle.xd_ledger.specs.Orderly.{all_orderly}
+use Rattle.xd_run.specs.Workers.{has_member, is_active, slot_of}
+use Rattle.xd_run.specs.Sharing.{State}
+use Rattle.xd_run.specs.State.{after_effect, after_entries, no_one, settled}
+use Rattle.xd_run.specs.Outputs.{outputs}
+use Rattle.xd_run.specs.Histories.{first_starts, starts_from}
+use Rattle.xd_run.specs.Proper.{IsProper, may_follow}
+use Rattle.xd_run.specs.Orderly.{all_orderly}
 use Rattle.xd_session.specs.History.{Run as TheRun, begun_run, after_news, input_of, run_of, entries_with, state_with}
-use Rattle.xd_laws.proofs.Logic.{and, cases_of, differ}
-use Rattle.xd_laws.proofs.Members.{has-member, is_member}
-use Rattle.xd_laws.proofs.Inputs.{tidy-input}
-use Rattle.xd_laws.proofs.Turns.{Tidy, after_entries-first}
+use Rattle.xd_run_laws.proofs.Logic.{and, cases_of, differ}
+use Rattle.xd_run_laws.proofs.Members.{has-member, is_member}
+use Rattle.xd_run_laws.proofs.Inputs.{tidy-input}
+use Rattle.xd_run_laws.proofs.Turns.{Tidy, after_entries-first}
 use Rattle.xd_drive.specs.Agrees.{Agrees}
 use Rattle.xd_drive.specs.Going.{entries_added, added_by}
 use Rattle.xd_drive.specs.Marks.{Marks, marked_heard}
@@ -79,13 +79,13 @@ module _ (settings : Settings) (slots : ℕ) (marks : ℕ → Marks) (s : State)
   abbrev t : State
   t = after_effect s e
 
-  outs-plain : (rest : List Entry) → outputs s e ≡ rest → Plain (not (Rattle.xd_ledger.specs.Plan.is_each t.plan.mode)) settings.workers rest → AllGo slots marks (outputs s e) (after_entries t (outputs s e))
+  outs-plain : (rest : List Entry) → outputs s e ≡ rest → Plain (not (Rattle.xd_run.specs.Plan.is_each t.plan.mode)) settings.workers rest → AllGo slots marks (outputs s e) (after_entries t (outputs s e))
   outs-plain rest is p =
       subst (λ (es : List Entry). AllGo slots marks es (after_entries t es)) (sym is)
       (all-go settings slots settings.workers marks t rest l p (sym (ap (all_orderly t) is) ∙ d.orderly) (bounded-input settings s e h b) (tidy-input s e h d.tidy).placed a)
 
   outs-kill : (w : ℕ) (rest : List Entry) → outputs s e ≡ Kill w ∷ rest → has_member w (λ m. true) t.books ≡ true → is_active w t.books ≡ false → (marks w).killed ≡ false
-      → Plain (not (Rattle.xd_ledger.specs.Plan.is_each t.plan.mode)) settings.workers rest → AllGo slots marks (outputs s e) (after_entries t (outputs s e))
+      → Plain (not (Rattle.xd_run.specs.Plan.is_each t.plan.mode)) settings.workers rest → AllGo slots marks (outputs s e) (after_entries t (outputs s e))
   outs-kill w rest is m n k p =
       let one = kill-goes slots marks t w m n k a in
       let more = all-go settings slots settings.workers (marks_after_entry (Kill w) marks) t rest l p (sym (ap (all_orderly t) is) ∙ d.orderly) (bounded-input settings s e h b) (tidy-input s e h d.tidy).placed one.agrees in

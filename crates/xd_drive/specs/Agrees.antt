@@ -1,7 +1,7 @@
 -- The marks of a hub that was called for what a run told so far, and gave the news that it took.
 use Rattle.std.specs.Prelude.{◌≡◌, ℕ, true, false}
-use Rattle.xd_ledger.specs.Books.{Books}
-use Rattle.xd_ledger.specs.Workers.{has_member, is_active, was_ready}
+use Rattle.xd_run.specs.Books.{Books}
+use Rattle.xd_run.specs.Workers.{has_member, is_active, was_ready}
 use Rattle.xd_drive.specs.Marks.{Marks}
 
 -- whoever was started is known to the run; who was killed or was heard to have ended is known and is not active; who is

@@ -4,11 +4,11 @@ use Rattle.xd_edge.specs.Sink.{PrintedPart}
 use Rattle.xd_journal.specs.declared.settings.Settings.{Settings}
 use Rattle.xd_journal.specs.declared.journal.Journal.{Journal}
 use Rattle.xd_journal.specs.declared.news.News.{News}
-use Rattle.xd_ledger.specs.Ending.{ending, may_close, stop_of}
-use Rattle.xd_ledger.specs.Legal.{IsLegal}
-use Rattle.xd_laws.specs.Whole.{NamesEach}
+use Rattle.xd_run.specs.Ending.{ending, may_close, stop_of}
+use Rattle.xd_run.specs.Legal.{IsLegal}
+use Rattle.xd_run_laws.specs.Whole.{NamesEach}
 use Rattle.xd_report.specs.Text.{text_of}
-use Rattle.xd_report_laws.specs.ItemIds.{NamesItems}
+use Rattle.xd_drive.specs.ItemIds.{NamesItems}
 use Rattle.xd_session.specs.Bounded.{IsBounded}
 use Rattle.xd_session.specs.Ends.{is_out_fault, last_stop}
 use Rattle.xd_session.specs.History.{Run, run_of}

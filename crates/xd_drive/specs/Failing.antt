@@ -4,7 +4,7 @@ use Rattle.xd_edge.specs.Sink.{Sunk}
 use Rattle.xd_journal.specs.declared.settings.Settings.{Settings}
 use Rattle.xd_journal.specs.declared.entry.Entry.{Entry}
 use Rattle.xd_journal.specs.declared.news.News.{News}
-use Rattle.xd_ledger.specs.Histories.{is_over}
+use Rattle.xd_run.specs.Histories.{is_over}
 use Rattle.xd_report.specs.Breaking.{BrokeAtEnd, BrokeAtLines}
 use Rattle.xd_session.specs.History.{run_of}
 

@@ -5,12 +5,12 @@ use Rattle.xd_journal.specs.declared.settings.Settings.{Settings}
 use Rattle.xd_journal.specs.declared.entry.Entry.{Entry}
 use Rattle.xd_journal.specs.declared.journal.Journal.{Journal}
 use Rattle.xd_journal.specs.declared.news.News.{News}
-use Rattle.xd_ledger.specs.Ending.{ending}
-use Rattle.xd_ledger.specs.Histories.{is_over}
-use Rattle.xd_ledger.specs.Outputs.{outputs}
-use Rattle.xd_ledger.specs.Sharing.{State}
-use Rattle.xd_ledger.specs.State.{after_entries, no_one}
-use Rattle.xd_ledger.specs.Workers.{is_active}
+use Rattle.xd_run.specs.Ending.{ending}
+use Rattle.xd_run.specs.Histories.{is_over}
+use Rattle.xd_run.specs.Outputs.{outputs}
+use Rattle.xd_run.specs.Sharing.{State}
+use Rattle.xd_run.specs.State.{after_entries, no_one}
+use Rattle.xd_run.specs.Workers.{is_active}
 use Rattle.xd_report.specs.Lines.{lines_from, run_lines}
 use Rattle.xd_report.specs.Text.{run_text, tail_text}
 use Rattle.xd_session.specs.History.{input_of, run_of}

@@ -3,9 +3,10 @@ pub mod Calls
 pub mod Driven
 pub mod Failing
 pub mod Going
+pub mod ItemIds
 pub mod Listed
 pub mod Marks
 pub mod Moments
 pub mod Performing
 pub mod Taken
-pub mod Written
+pub mod inner

@@ -6,8 +6,8 @@ use Rattle.xd_edge.specs.Sink.{Sunk}
 use Rattle.xd_journal.specs.declared.settings.Settings.{Settings}
 use Rattle.xd_journal.specs.declared.entry.Entry.{Entry}
 use Rattle.xd_journal.specs.declared.news.News.{News}
-use Rattle.xd_note.specs.Noted.{noted}
-use Rattle.xd_note.specs.declared.log.Log.{Log}
+use Rattle.xd_trace.specs.Noted.{noted}
+use Rattle.xd_trace.specs.declared.trace.Trace.{Trace}
 use Rattle.xd_report.specs.Lines.{run_lines}
 use Rattle.xd_session.specs.Stands.{SessionSeen}
 use Rattle.xd_drive.specs.declared.written.Written.{Written}
@@ -23,7 +23,7 @@ module _ {H O : Type 0} (marks : H → ℕ → Marks) (starts calls : H → Opti
   scene_at m = scene_of marks starts calls given sunk m.hub.value m.out.value
 
   -- the same of each moment that was noted
-  abbrev pub scenes_of : Log (Moment H O) → List HubScene
+  abbrev pub scenes_of : Trace (Moment H O) → List HubScene
   scenes_of moments = map scene_at (noted moments)
 
 -- What is printed and performed together notes the moment between: the hub was as it had been, the output as it came to be.

@@ -3,8 +3,8 @@
 use Rattle.std.specs.Prelude.{◌≡◌, false, List, [], ◌∷◌, ◌++◌, fold, if◌then◌else◌}
 use Rattle.xd_journal.specs.declared.settings.Settings.{Settings}
 use Rattle.xd_journal.specs.declared.news.News.{News}
-use Rattle.xd_ledger.specs.Histories.{is_over}
-use Rattle.xd_ledger.specs.Workers.{is_active}
+use Rattle.xd_run.specs.Histories.{is_over}
+use Rattle.xd_run.specs.Workers.{is_active}
 use Rattle.xd_session.specs.History.{run_of}
 
 -- after these news a further one is taken where its worker is active

@@ -4,6 +4,7 @@
 
 mod copies;
 mod hub;
+mod laws;
 mod listed_hub;
 mod moment;
 mod news;
@@ -13,6 +14,7 @@ mod running;
 mod written;
 
 pub use hub::Hub;
+pub use laws::{ids_law, names_law};
 pub use listed_hub::ListedHub;
 pub use moment::{Moment, NoWitness, Witness};
 pub use running::{DrivenRun, drive};

@@ -6,7 +6,7 @@ ghost use Rattle.xd_drive.specs.Moments.{scenes_of};
 use crate::Hub;
 use std::snapshot::Snapshot;
 use xd_edge::Sink;
-use xd_note::Log;
+use xd_trace::Trace;
 
 /// What looks at a hub and an output at moments of a run. Clauses alone read it.
 pub trait Witness<H: Hub, O: Sink> {
@@ -41,7 +41,7 @@ impl<H, O> Moment<H, O> {
 }
 
 /// A list of moments tells what it saw.
-impl<H: Hub, O: Sink> Witness<H, O> for Log<Moment<H, O>> {
+impl<H: Hub, O: Sink> Witness<H, O> for Trace<Moment<H, O>> {
     ghost seen = { λ l. Some (scenes_of H.marks H.starts H.calls H.given O.sunk l) };
 
     fn look(&mut self, hub: &H, out: &O) {

@@ -2,9 +2,9 @@
 ghost use Rattle.std.specs.Prelude.{◌≡◌, ◌≤◌, ℕ, List, [], ◌∷◌, ◌++◌, length, take, true, false, Ok, IfOk, OnOk};
 ghost use Rattle.xd_edge.specs.Faults.{Counted};
 ghost use Rattle.xd_journal.specs.declared.news.News.{News};
-ghost use Rattle.xd_ledger.specs.Proper.{IsProper};
-ghost use Rattle.xd_ledger.specs.State.{after_entries, no_one};
-ghost use Rattle.xd_ledger.specs.Workers.{is_active};
+ghost use Rattle.xd_run.specs.Proper.{IsProper};
+ghost use Rattle.xd_run.specs.State.{after_entries, no_one};
+ghost use Rattle.xd_run.specs.Workers.{is_active};
 ghost use Rattle.xd_report.specs.Follows.{Follows};
 ghost use Rattle.xd_report.specs.Lines.{lines_between, lines_from};
 ghost use Rattle.xd_session.specs.Stands.{StandsForNews, state_of};
@@ -12,7 +12,7 @@ ghost use Rattle.xd_drive.specs.Agrees.{Agrees};
 ghost use Rattle.xd_drive.specs.Going.{TakesNews, TellsEntries, added_by, scene_of};
 ghost use Rattle.xd_drive.specs.Moments.{NotesNews, NotesTurn};
 ghost use Rattle.xd_drive.specs.Performing.{all_possible, entries_between};
-ghost use Rattle.xd_drive.specs.Written.{is_whole};
+ghost use Rattle.xd_drive.specs.inner.Written.{is_whole};
 
 use crate::moment::Witness;
 use crate::perform::perform;

@@ -1,7 +1,7 @@
 // What is printed of a run.
 ghost use Rattle.std.specs.Prelude.{◌≤◌, length, take, Ok, IfOk, OnOk};
 ghost use Rattle.xd_edge.specs.Faults.{Counted};
-ghost use Rattle.xd_ledger.specs.State.{after_entries, no_one};
+ghost use Rattle.xd_run.specs.State.{after_entries, no_one};
 ghost use Rattle.xd_report.specs.Follows.{Follows};
 ghost use Rattle.xd_report.specs.Lines.{lines_between};
 ghost use Rattle.xd_report.specs.Text.{tail_text};

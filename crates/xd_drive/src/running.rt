@@ -1,11 +1,11 @@
 // The loop that runs a session over a hub.
 ghost use Rattle.std.specs.Prelude.{◌≡◌, ◌≤◌, [], not, IfOk, OnOk};
 ghost use Rattle.xd_edge.specs.Faults.{Counted};
-ghost use Rattle.xd_ledger.specs.Ending.{stop_of};
-ghost use Rattle.xd_ledger.specs.Histories.{run_end_of};
-ghost use Rattle.xd_ledger.specs.Proper.{IsProper};
-ghost use Rattle.xd_ledger.specs.Sharing.{State};
-ghost use Rattle.xd_ledger.specs.State.{after_entries, no_one};
+ghost use Rattle.xd_run.specs.Ending.{stop_of};
+ghost use Rattle.xd_run.specs.Histories.{run_end_of};
+ghost use Rattle.xd_run.specs.Proper.{IsProper};
+ghost use Rattle.xd_run.specs.Sharing.{State};
+ghost use Rattle.xd_run.specs.State.{after_entries, no_one};
 ghost use Rattle.xd_report.specs.Follows.{Follows};
 ghost use Rattle.xd_report.specs.Status.{status_in, status_of};
 ghost use Rattle.xd_session.specs.Ends.{is_out_fault};
@@ -13,7 +13,7 @@ ghost use Rattle.xd_session.specs.Stands.{StandsForNews};
 ghost use Rattle.xd_drive.specs.Driven.{Drove};
 ghost use Rattle.xd_drive.specs.Going.{EndsRun, EndsTail, HasNoMarks, scene_of};
 ghost use Rattle.xd_drive.specs.Moments.{ToldInOrder, performed_of};
-ghost use Rattle.xd_drive.specs.Written.{is_whole};
+ghost use Rattle.xd_drive.specs.inner.Written.{is_whole};
 
 use crate::moment::Witness;
 use crate::news::{entry_count, take_news};

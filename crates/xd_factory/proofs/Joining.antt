@@ -7,7 +7,7 @@ use Rattle.std.specs.List.{list_any}
 use Rattle.std.specs.BTreeMap.{BTreeMap, get, is_at, IsOrdered}
 use Rattle.std.proofs.lemmas.Bool.{cases_order, cases_eq, cases_lt, cases_Bool, or_cases, eqb-true}
 use Rattle.std.proofs.lemmas.Bool.Decides.{nat_tests}
-use Rattle.xd_factory.specs.Runs.{is_between}
+use Rattle.xd_factory.specs.inner.Runs.{is_between}
 use Rattle.xd_factory.proofs.Spans.{Forward, Apart, Covers, some_of, one_value, covered, covering, has_is}
 
 at_yes : (a q : ℕ) → q ≡ a → is_at (nat_cmp a) q ≡ true

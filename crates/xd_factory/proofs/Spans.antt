@@ -12,7 +12,7 @@ use Rattle.std.proofs.lemmas.List.Folds.{Any-from_list_any}
 use Rattle.std.proofs.lemmas.Map.Entries.{place_from_lookup}
 use Rattle.std.proofs.lemmas.Map.Keys.{any_passes_from_place}
 use Rattle.std.proofs.lemmas.Map.Views.{All-found}
-use Rattle.xd_factory.specs.Runs.{is_between}
+use Rattle.xd_factory.specs.inner.Runs.{is_between}
 
 abbrev pub Forward : (ℕ → Option ℕ) → Type 0
 Forward f = (a : ℕ) → (b : ℕ) → f a ≡ Some b → a ≤ b

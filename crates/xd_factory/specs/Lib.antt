@@ -1,5 +1,3 @@
-pub mod Runs
-pub mod Seen
 pub mod Numbers
 pub mod Said
 pub mod Reads
@@ -9,3 +7,4 @@ pub mod Table
 pub mod View
 pub mod History
 pub mod SideTable
+pub mod inner

@@ -4,7 +4,7 @@ use Rattle.std.specs.Prelude.{ℕ, ◌==◌, ◌%◌, ◌||◌, ◌&&◌, not, n
 use Rattle.xd_factory.specs.declared.parity.Parity.{Parity}
 use Rattle.xd_factory.specs.declared.parity.Parity.TheVariants.{Odd, Even}
 use Rattle.xd_factory.specs.declared.seen.Seen.{Seen}
-use Rattle.xd_factory.specs.Seen.{was_seen}
+use Rattle.xd_factory.specs.inner.Seen.{was_seen}
 
 -- the number is odd
 abbrev pub is_odd : ℕ → Bool

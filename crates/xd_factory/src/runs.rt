@@ -26,7 +26,7 @@ struct Run {
 }
 
 impl Runs {
-    ghost use Rattle.xd_factory.specs.Runs.{in_runs};
+    ghost use Rattle.xd_factory.specs.inner.Runs.{in_runs};
 
     /// No numbers.
     pub(crate) fn new(alloc: Global) -> Runs

@@ -1,7 +1,7 @@
 // The peer's numbers that came.
 ghost use Rattle.std.specs.Prelude.{◌≡◌, ◌≤◌, ◌==◌, ◌||◌, ℕ, false, OnOk, OnErr};
 ghost use Rattle.xd_factory.specs.Numbers.{is_mine, is_known};
-ghost use Rattle.xd_factory.specs.Seen.{was_seen};
+ghost use Rattle.xd_factory.specs.inner.Seen.{was_seen};
 
 use crate::Parity;
 use crate::runs::Runs;

@@ -9,8 +9,8 @@ use crate::SideFault;
 use std::alloc::Global;
 use xd_edge::Text;
 use xd_frame::{Kind, Message};
-use xd_loads::loads;
 use xd_value::{LoadFault, Value};
+use xd_value_loads::loads;
 
 /// What a message says, its payload read.
 #[derive(Drop)]

@@ -16,7 +16,7 @@ use Rattle.xd_frame.specs.Header.{header_read}
 use Rattle.xd_frame.specs.Stream.{AreBytes, Clean, Rest, Refused, Unfinished, left_over, end_meaning, header_in_front, message_of, messages, parts, parts_within, rest, rest_by, rest_of}
 use Rattle.xd_frame.specs.Framer.{FramerView, Holds, fresh_framer, StandsForBytes, feed_gives}
 use Rattle.xd_frame.specs.Pull.{AnswersTo, CountsSo, HoldsLess, IsLess, Pulls, few, begun, refused, missing, refusal_by, pull_fault_of, whole_of}
-use Rattle.xd_frame.specs.Pulling.{Draws, DrawsSo, is_out_of_memory}
+use Rattle.xd_frame.specs.inner.Pulling.{Draws, DrawsSo, is_out_of_memory}
 use Rattle.xd_frame.proofs.Front.{some_front}
 use Rattle.xd_frame.proofs.Framers.{feed_takes, front_says, held_is, next_moves, refused_rest}
 use Rattle.xd_frame.proofs.Longest.{front_frame}

@@ -2,7 +2,7 @@
 ghost use Rattle.std.specs.Prelude.{◌≡◌, ◌≤◌, ◌<◌, [], IfOk, IfErr, length, vec_len};
 ghost use Rattle.xd_frame.specs.Header.{InBounds};
 ghost use Rattle.xd_frame.specs.Pull.{missing};
-ghost use Rattle.xd_frame.specs.Pulling.{Draws, ReadsOn, TakesOut, Unread, ended_by, is_cut, is_out_of_memory};
+ghost use Rattle.xd_frame.specs.inner.Pulling.{Draws, ReadsOn, TakesOut, Unread, ended_by, is_cut, is_out_of_memory};
 ghost use Rattle.xd_frame.specs.Stream.{message_of};
 ghost use Rattle.xd_link.specs.Spring.{spring};
 

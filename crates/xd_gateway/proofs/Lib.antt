@@ -1,5 +1,9 @@
-pub mod Fitting
-pub mod Fours
-pub mod ReadBack
-pub mod Tuples
-pub mod WordBytes
+pub mod Lines
+pub mod Counted
+pub mod Ears
+pub mod Telling
+pub mod EventNews
+pub mod Sides
+pub mod Hearing
+pub mod Saying
+pub mod Kwargs

@@ -1,8 +1,10 @@
+pub mod Line
 pub mod Calls
-pub mod Events
-pub mod Functions
-pub mod Kwargs
-pub mod Limits
-pub mod Orders
-pub mod Status
-pub mod Words
+pub mod News
+pub mod Taking
+pub mod View
+pub mod Stands
+pub mod Told
+pub mod Rows
+pub mod Lending
+pub mod inner

@@ -1,28 +1,14 @@
-//! What is said about functions, as the values that travel on a channel: calls of a worker's functions, commands to one
-//! that runs tests, its events, and what a worker tells of itself.
-//!
-//! A command or an event is a call by name: a tuple of a text and a dict with text keys.
+//! The end of one link: its channels and its writing direction, after the class `Gateway` of execnet's `gateway.py`; and
+//! what the messages of a worker's link mean to its controller.
 #![tactic(auto)]
 
-mod call;
-mod events;
-mod function;
-mod kwargs;
+mod calls;
+mod fault;
+mod gateway;
+mod hear;
 mod laws;
-mod order;
-mod orders;
-mod outcome;
-mod status;
-mod word;
-mod words;
+mod side;
 
-pub use call::have_text_keys;
-pub use events::{event_value, value_event};
-pub use function::{CallFault, Called, Function, FunctionName, read_call};
-pub use kwargs::{text_at, value_at};
-pub use laws::{call_payload_law, event_law, order_law, order_payload_law};
-pub use order::Order;
-pub use orders::{order_value, value_order};
-pub use status::status_value;
-pub use word::{is_word, word_value};
-pub use words::{fail_word, large_suite_word, long_item_word, unread_suite_word};
+pub use fault::GatewayFault;
+pub use gateway::Gateway;
+pub use laws::{a_worker_can_be_told, messages_have_one_meaning};

@@ -12,14 +12,14 @@ use Rattle.xd_post.specs.Post.{Ring}
 use Rattle.xd_links.specs.Links.{ring_of_link, ring_of_mail, sources_of}
 use Rattle.xd_links.specs.Runs.{news_of}
 use Rattle.xd_group.specs.Fates.{EndedFrom, is_linked}
-use Rattle.xd_peer.specs.Heard.{says_send_fault}
-use Rattle.xd_group.specs.Kept.{Kept, said_of_worker}
-use Rattle.xd_group.specs.Late.{IsLateAt, Late, Settled}
-use Rattle.xd_peer.specs.Pages.{HasPage, Page, taken_of_link}
-use Rattle.xd_peer.specs.PeerView.{ends_of, has_ended, losses_of, page_by, pages_of}
+use Rattle.xd_group_peer.specs.Heard.{says_send_fault}
+use Rattle.xd_group.specs.inner.Kept.{Kept, said_of_worker}
+use Rattle.xd_group.specs.inner.Late.{IsLateAt, Late, Settled}
+use Rattle.xd_group_peer.specs.Pages.{HasPage, Page, taken_of_link}
+use Rattle.xd_group_peer.specs.PeerView.{ends_of, has_ended, losses_of, page_by, pages_of}
 use Rattle.xd_group.specs.declared.fate.Fate.{Fate}
 use Rattle.xd_group.specs.declared.fate.Fate.TheVariants as fate
-use Rattle.xd_peer.specs.declared.peer.Peer.{Peer}
+use Rattle.xd_group_peer.specs.declared.peer.Peer.{Peer}
 use Rattle.xd_group.proofs.Keeping.{map_read}
 use Rattle.xd_group.proofs.LossFacts.{fault_lost}
 use Rattle.xd_group.proofs.PageFacts.{never}

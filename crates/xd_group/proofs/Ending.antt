@@ -13,17 +13,17 @@ use Rattle.xd_journal.specs.declared.news.What.{What}
 use Rattle.xd_reader.specs.declared.news.LinkNews.{LinkNews}
 use Rattle.xd_links.specs.Runs.{LinkRead}
 use Rattle.xd_links.proofs.Places.{set_read}
-use Rattle.xd_peer.specs.Ends.{EndsSo}
+use Rattle.xd_group_peer.specs.Ends.{EndsSo}
 use Rattle.xd_drive.specs.Listed.{is_listed}
 use Rattle.xd_group.specs.Fates.{is_refused, workers_with}
 use Rattle.xd_group.specs.Returned.{RanSo}
 use Rattle.xd_group.specs.Unused.{Unused}
 use Rattle.xd_group.specs.declared.fate.Fate.{Fate}
 use Rattle.xd_group.specs.declared.fate.Fate.TheVariants as fate
-use Rattle.xd_group.specs.Kept.{Kept, orders_to, said_of_worker}
-use Rattle.xd_group.specs.Late.{IsLateAt, Late, LateAt, RanAt, Settled, late_page, settled_at, settled_of}
-use Rattle.xd_peer.specs.LinkRun.{Link, LinkRun, link_of}
-use Rattle.xd_peer.specs.Pages.{Page, taken_of_link}
+use Rattle.xd_group.specs.inner.Kept.{Kept, orders_to, said_of_worker}
+use Rattle.xd_group.specs.inner.Late.{IsLateAt, Late, LateAt, RanAt, Settled, late_page, settled_at, settled_of}
+use Rattle.xd_group_peer.specs.LinkRun.{Link, LinkRun, link_of}
+use Rattle.xd_group_peer.specs.Pages.{Page, taken_of_link}
 use Rattle.xd_group.proofs.FateFacts.{among_with, not_with}
 use Rattle.xd_group.proofs.Keeping.{map_read, page_taken}
 use Rattle.xd_group.proofs.Running.{link_run}

@@ -19,12 +19,12 @@ use Rattle.xd_drive.specs.Calls.{is_order}
 use Rattle.xd_drive.specs.Performing.{is_start_of, was_started}
 use Rattle.xd_edge.specs.declared.mode.ModeKind.{ModeKind}
 use Rattle.std.specs.Prelude.{IsSome}
-use Rattle.xd_gateway.specs.Orders.{order_of}
+use Rattle.xd_commands.specs.Orders.{order_of}
 use Rattle.xd_journal.specs.Said.{is_breach, is_end, is_ready}
 use Rattle.xd_drive.specs.Marks.{may_tell}
 use Rattle.xd_links.proofs.Places.{push_read, set_read}
-use Rattle.xd_peer.specs.Pages.{Page, HasPage, HeardAt, IsHeardAt, IsToldAt, ToldAt, heard_page, told_page, taken_of_link, page_opened, first_page}
-use Rattle.xd_group.specs.Kept.{IsOwn, Kept, orders_to, said_of_worker}
+use Rattle.xd_group_peer.specs.Pages.{Page, HasPage, HeardAt, IsHeardAt, IsToldAt, ToldAt, heard_page, told_page, taken_of_link, page_opened, first_page}
+use Rattle.xd_group.specs.inner.Kept.{IsOwn, Kept, orders_to, said_of_worker}
 use Rattle.xd_group.specs.Tells.{marks_told}
 
 -- ---- places of a list

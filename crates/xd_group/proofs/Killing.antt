@@ -14,8 +14,8 @@ use Rattle.xd_drive.specs.Performing.{was_started}
 use Rattle.xd_links.proofs.Places.{push_read}
 use Rattle.xd_starts.specs.Children.{all_buried, buried_child, child_changed_at, cut_by, fresh_child, killed_child, reaped_child}
 use Rattle.xd_group.specs.Fates.{has_link, is_refused, workers_with}
-use Rattle.xd_peer.specs.Heard.{says_send_fault}
-use Rattle.xd_group.specs.Kept.{said_of_worker}
+use Rattle.xd_group_peer.specs.Heard.{says_send_fault}
+use Rattle.xd_group.specs.inner.Kept.{said_of_worker}
 use Rattle.xd_group.specs.Kills.{EndKilledSo, KeepsLost, KilledSo, Loses, LostAt}
 use Rattle.xd_starts.specs.declared.child.Child.{Child}
 use Rattle.xd_group.specs.declared.fate.Fate.{Fate}

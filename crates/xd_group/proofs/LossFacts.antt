@@ -8,12 +8,12 @@ use Rattle.std.proofs.lemmas.List.{map-append, map-set}
 use Rattle.std.proofs.lemmas.Option.{slice_get-map}
 use Rattle.xd_links.proofs.LinkFacts.{here}
 use Rattle.xd_group.specs.Fates.{is_linked}
-use Rattle.xd_peer.specs.Heard.{says_send_fault}
+use Rattle.xd_group_peer.specs.Heard.{says_send_fault}
 use Rattle.xd_group.specs.Kills.{KeepsLost, Loses, LostAt}
-use Rattle.xd_peer.specs.Pages.{Page}
-use Rattle.xd_peer.specs.PeerView.{is_lost_at, losses_of, page_by, page_of, pages_of}
+use Rattle.xd_group_peer.specs.Pages.{Page}
+use Rattle.xd_group_peer.specs.PeerView.{is_lost_at, losses_of, page_by, page_of, pages_of}
 use Rattle.xd_group.specs.declared.fate.Fate.{Fate}
-use Rattle.xd_peer.specs.declared.peer.Peer.{Peer}
+use Rattle.xd_group_peer.specs.declared.peer.Peer.{Peer}
 
 -- ---- lists of flags
 

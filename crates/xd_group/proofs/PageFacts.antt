@@ -11,13 +11,13 @@ use Rattle.std.proofs.Math.Logic.{∥∥₁_elim}
 use Rattle.std.specs.List.{list_any}
 use Rattle.xd_edge.specs.declared.mode.ModeKind.{ModeKind}
 use Rattle.xd_journal.specs.Said.{is_end}
-use Rattle.xd_note.specs.Noted.{noted}
+use Rattle.xd_trace.specs.Noted.{noted}
 use Rattle.xd_reader.specs.declared.news.LinkNews.{LinkNews}
-use Rattle.xd_peer.proofs.PeerFacts.{no_way}
-use Rattle.xd_group.specs.Late.{IsLateAt, late_page}
-use Rattle.xd_peer.specs.Pages.{Page, IsHeardAt, IsToldAt, is_nothing, told_page, heard_page}
-use Rattle.xd_peer.specs.PeerView.{page_by, page_of, pages_of}
-use Rattle.xd_peer.specs.declared.peer.Peer.{Peer}
+use Rattle.xd_group_peer.proofs.PeerFacts.{no_way}
+use Rattle.xd_group.specs.inner.Late.{IsLateAt, late_page}
+use Rattle.xd_group_peer.specs.Pages.{Page, IsHeardAt, IsToldAt, is_nothing, told_page, heard_page}
+use Rattle.xd_group_peer.specs.PeerView.{page_by, page_of, pages_of}
+use Rattle.xd_group_peer.specs.declared.peer.Peer.{Peer}
 
 abbrev as_page : List ℕ → ModeKind → List LinkNews → List Entry → List What → List What → Bool → Page
 as_page s m t o w l k = record { suite = s; mode = m; taken = t; told = o; said = w; late = l; known = k }

@@ -13,17 +13,17 @@ use Rattle.xd_reader.specs.declared.news.LinkStop.{LinkStop}
 use Rattle.xd_reader.specs.declared.news.LinkStop.TheVariants as stop
 use Rattle.xd_link.specs.Spring.{Spring}
 use Rattle.xd_reader.specs.Reads.{StopsAt}
-use Rattle.xd_remote.specs.News.{all_messages, all_news}
-use Rattle.xd_peer.specs.ToLink.{has_left, to_link}
-use Rattle.xd_peer.specs.Sent.{EndsWhole, HandedOn, SentAs}
-use Rattle.xd_peer.specs.Heard.{is_of_link, of_link}
+use Rattle.xd_gateway.specs.News.{all_messages, all_news}
+use Rattle.xd_group_peer.specs.ToLink.{has_left, to_link}
+use Rattle.xd_group_peer.specs.Sent.{EndsWhole, HandedOn, SentAs}
+use Rattle.xd_group_peer.specs.Heard.{is_of_link, of_link}
 use Rattle.std.proofs.lemmas.List.Elements.{filter-append}
-use Rattle.xd_peer.specs.Ends.{EndsSo}
-use Rattle.xd_peer.specs.Heard.{HeardSo, cause_by, is_send_fault, plain_cause}
-use Rattle.xd_peer.specs.LinkRun.{IsGone, LinkRun, link_of, ReadToStop, SentAll, SentPart, SentSo, is_garbled}
-use Rattle.xd_peer.specs.Pages.{Page}
-use Rattle.xd_remote.specs.declared.gateway.Gateway.{Gateway}
-use Rattle.xd_peer.proofs.PeerFacts.{fault_is}
+use Rattle.xd_group_peer.specs.Ends.{EndsSo}
+use Rattle.xd_group_peer.specs.Heard.{HeardSo, cause_by, is_send_fault, plain_cause}
+use Rattle.xd_group_peer.specs.LinkRun.{IsGone, LinkRun, link_of, ReadToStop, SentAll, SentPart, SentSo, is_garbled}
+use Rattle.xd_group_peer.specs.Pages.{Page}
+use Rattle.xd_gateway.specs.declared.gateway.Gateway.{Gateway}
+use Rattle.xd_group_peer.proofs.PeerFacts.{fault_is}
 
 -- messages and then an end come apart in one way
 apart : (put ms : List MessageView) (why done : LinkStop) (rest : List LinkNews) → map Message put ++ End done ∷ [] ≡ map Message ms ++ End why ∷ rest → (put ≡ ms) × (done ≡ why)

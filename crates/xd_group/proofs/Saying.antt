@@ -14,8 +14,8 @@ use Rattle.xd_drive.specs.Listed.{is_listed}
 use Rattle.xd_drive.specs.Performing.{was_started}
 use Rattle.xd_links.proofs.Places.{push_read}
 use Rattle.xd_group.specs.Fates.{is_linked, workers_with}
-use Rattle.xd_group.specs.Kept.{Kept, said_of_worker}
-use Rattle.xd_peer.specs.Pages.{HasPage, Page, page_opened}
+use Rattle.xd_group.specs.inner.Kept.{Kept, said_of_worker}
+use Rattle.xd_group_peer.specs.Pages.{HasPage, Page, page_opened}
 use Rattle.xd_group.specs.Unsaid.{IsWaiting, SaidUnlinked, Unsaid, wait_one}
 use Rattle.xd_group.specs.declared.fate.Fate.{Fate}
 use Rattle.xd_group.proofs.FateFacts.{among_with, not_within}

@@ -6,8 +6,8 @@ use Rattle.xd_journal.specs.declared.news.News.{News}
 use Rattle.xd_drive.specs.Listed.{is_listed, was_killed}
 use Rattle.xd_drive.specs.Performing.{was_started}
 use Rattle.xd_group.specs.Fates.{is_refused}
-use Rattle.xd_peer.specs.Heard.{says_send_fault}
-use Rattle.xd_group.specs.Kept.{said_of_worker}
+use Rattle.xd_group_peer.specs.Heard.{says_send_fault}
+use Rattle.xd_group.specs.inner.Kept.{said_of_worker}
 use Rattle.xd_starts.specs.declared.child.Child.{Child}
 use Rattle.xd_group.specs.declared.fate.Fate.{Fate}
 use Rattle.xd_group.specs.declared.fate.Fate.TheVariants.{Refused}

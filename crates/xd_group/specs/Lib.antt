@@ -1,11 +1,9 @@
-pub mod Ending
 pub mod Fates
 pub mod Few
 pub mod InStep
-pub mod Kept
 pub mod Kills
-pub mod Late
 pub mod Returned
 pub mod Tells
 pub mod Unsaid
 pub mod Unused
+pub mod inner

@@ -6,8 +6,8 @@ use Rattle.xd_journal.specs.declared.news.News.{News}
 use Rattle.xd_link.specs.declared.starter.Reaped.TheVariants.{Once}
 use Rattle.xd_drive.specs.Listed.{is_listed}
 use Rattle.xd_starts.specs.Children.{AskedOfLink}
-use Rattle.xd_group.specs.Kept.{orders_to, said_of_worker}
-use Rattle.xd_peer.specs.LinkRun.{Link, LinkRun}
+use Rattle.xd_group.specs.inner.Kept.{orders_to, said_of_worker}
+use Rattle.xd_group_peer.specs.LinkRun.{Link, LinkRun}
 use Rattle.xd_group.specs.Unused.{Unused}
 
 -- It ran by the news of its worker and the orders to it; where the crew refused its reader, it was not used.

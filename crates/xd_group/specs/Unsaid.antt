@@ -2,8 +2,8 @@
 use Rattle.std.specs.Prelude.{◌≡◌, ◌⊎◌, ◌<◌, ℕ, Bool, true, false, List, [], ◌∷◌, ◌++◌, Option, Some, None, length, slice_get}
 use Rattle.xd_journal.specs.declared.news.News.{News}
 use Rattle.xd_journal.specs.declared.news.What.TheVariants.{NotStarted}
-use Rattle.xd_group.specs.Kept.{said_of_worker}
-use Rattle.xd_peer.specs.Pages.{Page}
+use Rattle.xd_group.specs.inner.Kept.{said_of_worker}
+use Rattle.xd_group_peer.specs.Pages.{Page}
 
 -- nothing, or that the worker was not started
 abbrev pub SaidUnlinked : List News → ℕ → Type 0

@@ -1,7 +1,7 @@
 -- A link that was not used.
 use Rattle.std.specs.Prelude.{◌≡◌, [], IfSome}
 use Rattle.xd_link.specs.FreshLink.{unused}
-use Rattle.xd_peer.specs.LinkRun.{Link}
+use Rattle.xd_group_peer.specs.LinkRun.{Link}
 
 -- Nothing was given and nothing taken, and neither direction failed.
 pub record Unused (l : Link) : Type 0 where

@@ -7,9 +7,9 @@ use crate::spare::{Spare, take_kept};
 use std::sync::Wait;
 use xd_crew::Crew;
 use xd_edge::{OutOfMemory, Sink};
+use xd_group_peer::Peer;
 use xd_link::Source;
 use xd_links::Links;
-use xd_peer::Peer;
 use xd_reader::Reader;
 
 /// A link that was closed.
@@ -24,17 +24,17 @@ impl<S: Source + Drop, N: Sink + Drop, C: Crew<Reader<S>>> Group<S, N, C> {
     ghost use Rattle.std.specs.Prelude.{◌≡◌, true, length, map, is_some, ◌<◌, ◌+◌, ℕ, List, Option, Some, false, slice_get, OnOk, IfSome};
     ghost use Rattle.xd_links.specs.Runs.{news_of};
     ghost use Rattle.xd_post.specs.Mails.{mails};
-    ghost use Rattle.xd_note.specs.Noted.{noted};
-    ghost use Rattle.xd_group.specs.Ending.{Began, Ending, began_with, links_left};
+    ghost use Rattle.xd_trace.specs.Noted.{noted};
+    ghost use Rattle.xd_group.specs.inner.Ending.{Began, Ending, began_with, links_left};
     ghost use Rattle.xd_group.specs.Fates.{has_link, is_refused, workers_with};
     ghost use Rattle.xd_group.specs.Returned.{RanSo};
-    ghost use Rattle.xd_peer.specs.PeerView.{pages_of, ends_of, has_ended, losses_of};
+    ghost use Rattle.xd_group_peer.specs.PeerView.{pages_of, ends_of, has_ended, losses_of};
     ghost use Rattle.xd_group.specs.declared.fate.Fate.{Fate};
     ghost use Rattle.xd_group.specs.declared.fate.Fate.TheVariants.{Linked};
     ghost use Rattle.xd_group.specs.Unused.{Unused};
-    ghost use Rattle.xd_group.specs.Late.{Late, RanAt, Settled};
+    ghost use Rattle.xd_group.specs.inner.Late.{Late, RanAt, Settled};
     ghost use Rattle.xd_group.specs.Kills.{KeepsLost};
-    ghost use Rattle.xd_peer.specs.LinkRun.{link_of};
+    ghost use Rattle.xd_group_peer.specs.LinkRun.{link_of};
     ghost use Rattle.xd_link.specs.Spring.{spring};
     ghost use Rattle.std.specs.List.{list_all};
 

@@ -1,7 +1,7 @@
 // What a hub was called for and what it gave, and who its workers are.
 ghost use Rattle.std.specs.Prelude.{◌≡◌, ◌<◌, ◌∷◌, ◌++◌, [], ℕ, All, IfOk, OnOk, IfSome, IfNone, Some, None, length, slice_get, option_map, option_to_list};
 ghost use Rattle.xd_journal.specs.declared.entry.Entry.TheVariants.{Start};
-ghost use Rattle.xd_note.specs.Noted.{noted};
+ghost use Rattle.xd_trace.specs.Noted.{noted};
 ghost use Rattle.xd_group.specs.Fates.{is_linked};
 ghost use Rattle.xd_group.specs.Tells.{IsStarted, worker_of_start, workers_started};
 ghost use Rattle.xd_group.specs.Unsaid.{wait_one};
@@ -10,13 +10,13 @@ use crate::fate::Fate;
 use std::alloc::Global;
 use xd_edge::OutOfMemory;
 use xd_journal::{Entry, News, What};
-use xd_note::Log;
+use xd_trace::Trace;
 
 /// What a hub was called for and what it gave, in two lists that clauses alone read; and the workers that were started.
 #[derive(Drop)]
 pub struct Diary {
-    pub calls: Log<Entry>,
-    pub given: Log<News>,
+    pub calls: Trace<Entry>,
+    pub given: Trace<News>,
     /// By the numbers of their links.
     pub workers: Vec<u32>,
     /// What became of their starts.
@@ -36,8 +36,8 @@ impl Diary {
         ensures fates { IfOk result (λ d. d.fates.items ≡ []) }
         ensures waiting { IfOk result (λ d. d.waiting.items ≡ []) }
     {
-        let calls = Log::new(alloc)?;
-        let given = Log::new(alloc)?;
+        let calls = Trace::new(alloc)?;
+        let given = Trace::new(alloc)?;
         Ok(Diary {
             calls,
             given,

@@ -23,15 +23,15 @@ impl<St: Starter, C: Crew<Reader<St::Src>>> GatewayHub<St, C> {
     ghost use Rattle.xd_edge.specs.Faults.{RoseBy};
     ghost use Rattle.xd_link.specs.Spring.{spring};
     ghost use Rattle.xd_post.specs.Mails.{mails};
-    ghost use Rattle.xd_note.specs.Noted.{noted};
+    ghost use Rattle.xd_trace.specs.Noted.{noted};
     ghost use Rattle.xd_drive.specs.Listed.{is_listed, starts_of};
     ghost use Rattle.xd_starts.specs.Children.{link_asked, starts_told, told_of};
-    ghost use Rattle.xd_group.specs.Ending.{AreEnded, Began, Ending, links_left};
+    ghost use Rattle.xd_group.specs.inner.Ending.{AreEnded, Began, Ending, links_left};
     ghost use Rattle.xd_group.specs.Fates.{has_link, is_linked, is_refused, is_unlinked, workers_with};
     ghost use Rattle.xd_group.specs.Few.{RoseFor, count_with};
     ghost use Rattle.xd_group.specs.InStep.{all_started};
     ghost use Rattle.xd_group.specs.Kills.{EndKilledSo};
-    ghost use Rattle.xd_peer.specs.LinkRun.{link_of};
+    ghost use Rattle.xd_group_peer.specs.LinkRun.{link_of};
     ghost use Rattle.xd_group.specs.Returned.{RanSo, end_told};
     ghost use Rattle.xd_group.specs.Tells.{workers_started};
     ghost use Rattle.xd_group.specs.Unsaid.{SaidUnlinked};

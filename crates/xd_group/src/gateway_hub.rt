@@ -7,14 +7,14 @@ ghost use Rattle.xd_drive.specs.Calls.{is_order};
 ghost use Rattle.xd_drive.specs.Listed.{starts_of, others_of};
 ghost use Rattle.xd_journal.specs.Said.{is_breach};
 ghost use Rattle.xd_drive.specs.Marks.{marked_heard, marked_started, may_tell};
-ghost use Rattle.xd_note.specs.Noted.{noted};
+ghost use Rattle.xd_trace.specs.Noted.{noted};
 ghost use Rattle.xd_journal.specs.declared.entry.Entry.{Entry};
 ghost use Rattle.xd_journal.specs.declared.news.News.{News};
 ghost use Rattle.xd_edge.specs.declared.mode.ModeKind.{ModeKind};
 ghost use Rattle.xd_starts.specs.Children.{is_buried, is_killed_and_reaped, starts_told};
 ghost use Rattle.xd_group.specs.InStep.{ChildrenInStep};
 ghost use Rattle.xd_group.specs.Kills.{KilledSo};
-ghost use Rattle.xd_peer.specs.PeerView.{losses_of};
+ghost use Rattle.xd_group_peer.specs.PeerView.{losses_of};
 ghost use Rattle.xd_group.specs.Tells.{IsStarted, marks_told};
 
 use crate::diary::Diary;

@@ -3,12 +3,12 @@ ghost use Rattle.std.specs.Prelude.{◌≡◌, ◌≤◌, true, length, map, is_
 ghost use Rattle.std.specs.Bool.{then_some};
 ghost use Rattle.std.specs.Str.{encode_utf8_all};
 ghost use Rattle.xd_links.specs.Runs.{news_of};
-ghost use Rattle.xd_note.specs.Noted.{noted};
+ghost use Rattle.xd_trace.specs.Noted.{noted};
 ghost use Rattle.xd_post.specs.Mails.{mails};
 ghost use Rattle.xd_group.specs.Fates.{is_linked, is_refused};
 ghost use Rattle.xd_group.specs.Few.{RoseFor, count_with};
-ghost use Rattle.xd_group.specs.Kept.{Kept};
-ghost use Rattle.xd_peer.specs.PeerView.{pages_of};
+ghost use Rattle.xd_group.specs.inner.Kept.{Kept};
+ghost use Rattle.xd_group_peer.specs.PeerView.{pages_of};
 ghost use Rattle.xd_group.specs.Unsaid.{Unsaid};
 
 use crate::diary::Diary;
@@ -19,10 +19,10 @@ use std::snapshot::Snapshot;
 use std::sync::Wait;
 use xd_crew::Crew;
 use xd_edge::{ModeKind, OutOfMemory, Sink, Text};
+use xd_group_peer::Peer;
 use xd_journal::{Entry, News, What};
 use xd_link::Source;
 use xd_links::Links;
-use xd_peer::Peer;
 use xd_reader::Reader;
 
 /// All links of a hub. It is not whole once memory ran out.
@@ -76,7 +76,7 @@ impl<S: Source + Drop, N: Sink + Drop, C: Crew<Reader<S>>> Group<S, N, C> {
     ghost use Rattle.xd_journal.specs.declared.entry.Entry.TheVariants.{Kill};
     ghost use Rattle.xd_group.specs.Unsaid.{SaysNext};
     ghost use Rattle.xd_group.specs.Kills.{Loses};
-    ghost use Rattle.xd_peer.specs.PeerView.{losses_of};
+    ghost use Rattle.xd_group_peer.specs.PeerView.{losses_of};
 
     /// Tells a worker. Gives the number of its link, where a write failed and it is to be killed.
     pub fn say(

@@ -7,9 +7,9 @@ use crate::spare::{Spare, keep};
 use std::alloc::Global;
 use xd_crew::Crew;
 use xd_edge::{ModeKind, OutOfMemory, Sink, Text};
+use xd_group_peer::Peer;
 use xd_link::Source;
 use xd_links::Links;
-use xd_peer::Peer;
 use xd_reader::Reader;
 
 /// What became of a start that has a link, and whether its child is to be killed.
@@ -23,10 +23,10 @@ impl<S: Source + Drop, N: Sink + Drop, C: Crew<Reader<S>>> Group<S, N, C> {
     ghost use Rattle.std.specs.Prelude.{◌≡◌, ◌≤◌, true, length, map, is_some, ◌<◌, ◌+◌, ◌∷◌, ◌++◌, [], ℕ, List, Option, Some, false, is_none, OnOk, OnErr, IfOk, IfSome};
     ghost use Rattle.std.specs.Str.{encode_utf8_all};
     ghost use Rattle.xd_links.specs.Runs.{news_of};
-    ghost use Rattle.xd_note.specs.Noted.{noted};
+    ghost use Rattle.xd_trace.specs.Noted.{noted};
     ghost use Rattle.xd_post.specs.Mails.{mails};
     ghost use Rattle.xd_group.specs.Fates.{is_linked, is_refused, has_link};
-    ghost use Rattle.xd_peer.specs.PeerView.{pages_of, losses_of};
+    ghost use Rattle.xd_group_peer.specs.PeerView.{pages_of, losses_of};
     ghost use Rattle.xd_edge.specs.declared.mode.ModeKind.{ModeKind};
     ghost use Rattle.xd_edge.specs.Faults.{Counted};
     ghost use Rattle.xd_drive.specs.Performing.{was_started};
@@ -34,7 +34,7 @@ impl<S: Source + Drop, N: Sink + Drop, C: Crew<Reader<S>>> Group<S, N, C> {
     ghost use Rattle.xd_journal.specs.declared.entry.Entry.TheVariants.{Start};
     ghost use Rattle.xd_group.specs.declared.fate.Fate.{Fate};
     ghost use Rattle.xd_group.specs.declared.fate.Fate.TheVariants.{Unlinked};
-    ghost use Rattle.xd_peer.specs.Pages.{taken_of_link, page_opened};
+    ghost use Rattle.xd_group_peer.specs.Pages.{taken_of_link, page_opened};
     ghost use Rattle.xd_group.specs.Kills.{CutsLast};
 
     // Starts a reader. The source comes back where the crew refused it.

@@ -2,20 +2,20 @@
 ghost use Rattle.std.specs.Prelude.{◌≡◌, ◌≤◌, ◌<◌, ℕ, ◌∷◌, ◌++◌, [], true, false, Some, None, OnOk, IfOk, IfSome, IsSome, is_some, length, map, slice_get, slice_set};
 ghost use Rattle.std.specs.Str.{encode_utf8_all};
 ghost use Rattle.xd_journal.specs.Said.{is_breach};
-ghost use Rattle.xd_gateway.specs.Orders.{order_of};
-ghost use Rattle.xd_peer.specs.Ends.{EndsSo};
-ghost use Rattle.xd_peer.specs.Pages.{HeardAt, IsHeardAt, IsToldAt, Page, ToldAt, page_opened};
+ghost use Rattle.xd_commands.specs.Orders.{order_of};
+ghost use Rattle.xd_group_peer.specs.Ends.{EndsSo};
+ghost use Rattle.xd_group_peer.specs.Pages.{HeardAt, IsHeardAt, IsToldAt, Page, ToldAt, page_opened};
 ghost use Rattle.xd_link.specs.FreshLink.{unused};
-ghost use Rattle.xd_group.specs.Late.{IsLateAt, LateAt};
+ghost use Rattle.xd_group.specs.inner.Late.{IsLateAt, LateAt};
 ghost use Rattle.xd_group.specs.Kills.{KeepsLost, Loses};
-ghost use Rattle.xd_peer.specs.PeerView.{ends_of, has_ended, losses_of, page_by, pages_of};
+ghost use Rattle.xd_group_peer.specs.PeerView.{ends_of, has_ended, losses_of, page_by, pages_of};
 ghost use Rattle.std.specs.Bool.{then_some};
 ghost use Rattle.std.specs.List.{list_all};
 
 use std::alloc::Global;
 use xd_edge::{ModeKind, OutOfMemory, Sink, Text};
+use xd_group_peer::{HeardNews, Peer};
 use xd_journal::Entry;
-use xd_peer::{HeardNews, Peer};
 use xd_reader::LinkNews;
 
 /// Tells an order to the link at the place. Says whether a write failed, now or before.

@@ -2,9 +2,9 @@
 use Rattle.std.proofs.Common.{◌≡◌, ℕ, ◌+◌, ◌<◌, true, false, not, ◌==◌, List, [], ◌∷◌, ◌++◌, length, take, drop, map, filter, refl, sym, ◌∙◌, ap, arith, get_or, if◌then◌else◌}
 use Rattle.std.proofs.lemmas.List.{map-set, length-map, get_or-map}
 use Rattle.std.proofs.Math.ListN.{set}
-use Rattle.xd_ledger.specs.declared.seat.Seat.{Seat}
-use Rattle.xd_ledger.specs.Table.{without_seat}
-use Rattle.xd_ledger.proofs.Changed.{one_changed}
+use Rattle.xd_run.specs.declared.seat.Seat.{Seat}
+use Rattle.xd_run.specs.Table.{without_seat}
+use Rattle.xd_run.proofs.Changed.{one_changed}
 use Rattle.xd_held.specs.declared.holder.Holder.{Holder}
 use Rattle.xd_held.specs.Holders.{seat_of_holder}
 

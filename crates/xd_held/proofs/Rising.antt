@@ -7,7 +7,7 @@ use Rattle.std.proofs.lemmas.List.Elements.{All-drop}
 use Rattle.std.proofs.lemmas.List.Folds.{list_any_at}
 use Rattle.std.proofs.lemmas.List.Kept.{AllPairs-from_increasing}
 use Rattle.std.proofs.lemmas.List.{get_or_append_left, length_push}
-use Rattle.xd_ledger.specs.Numbers.{among, first_of, without}
+use Rattle.xd_run.specs.Numbers.{among, first_of, without}
 
 -- a number that is below all others is not among them
 without-lower : (x : ℕ) (ys : List ℕ) → All (λ y. x < y) ys → without (x ∷ []) ys ≡ ys

@@ -1,7 +1,7 @@
 // The items that one worker holds.
 ghost use Rattle.std.specs.Prelude.{◌≡◌, [], ◌∷◌, ◌++◌, ◌-◌, drop, length, OnOk, true, ◌↔◌};
 ghost use Rattle.std.specs.List.Sorted.{IsStrictlyIncreasing};
-ghost use Rattle.xd_ledger.specs.Numbers.{first_of, without};
+ghost use Rattle.xd_run.specs.Numbers.{first_of, without};
 
 use crate::numbers::is_among;
 use std::alloc::Global;

@@ -1,7 +1,7 @@
 // What the workers of the rota hold.
 ghost use Rattle.std.specs.Prelude.{◌≡◌, ◌==◌, ◌++◌, ◌∷◌, [], map, OnOk, false, if◌then◌else◌};
-ghost use Rattle.xd_ledger.specs.Numbers.{first_of, without};
-ghost use Rattle.xd_ledger.specs.Table.{at_seat, held_in, without_seat};
+ghost use Rattle.xd_run.specs.Numbers.{first_of, without};
+ghost use Rattle.xd_run.specs.Table.{at_seat, held_in, without_seat};
 ghost use Rattle.xd_held.specs.Holders.{seat_of_holder};
 
 use crate::held::Held;

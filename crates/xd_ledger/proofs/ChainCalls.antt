@@ -3,7 +3,7 @@ use Rattle.std.proofs.Common.{◌≡◌, ℕ, zero, suc, append_assoc, take, dro
 use Rattle.std.specs.Prelude.{◌==◌, ◌||◌, if◌then◌else◌}
 use Rattle.std.proofs.lemmas.Bool.Decides.{nat_tests}
 use Rattle.std.proofs.lemmas.List.{get_or_read, get_or_past, take_more}
-use Rattle.xd_ledger.specs.Numbers.{times, among, without, all_among, all_distinct, first_of}
+use Rattle.xd_run.specs.Numbers.{times, among, without, all_among, all_distinct, first_of}
 use Rattle.xd_ledger.specs.Chains.{Lists, chain_at, chains_of, number_count, is_unchained, at, owner_of, no_chain, chain, AreChains, changed, shifted, poured, final_of, part_before, part_after}
 use Rattle.xd_ledger.proofs.Links.{last_or, first_or, same, swapped, without-around, back-of, next-of, times-last, times-first, times-append}
 use Rattle.xd_ledger.proofs.ChainMoves.{Gives, by_cases, equals, changed-here, changed-else, stands-once, take_gives, put_gives, put_first_gives, place-fits, stands-few, stands-around, stands-below, chains-long, among-once}

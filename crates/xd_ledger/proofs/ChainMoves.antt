@@ -3,9 +3,9 @@ use Rattle.std.proofs.Common.{◌≡◌, ℕ, ◌+◌, ◌-◌, ◌≤◌, ◌<�
 use Rattle.std.specs.Prelude.{◌==◌}
 use Rattle.std.proofs.lemmas.Bool.Decides.{nat_tests}
 use Rattle.std.proofs.lemmas.List.{length-set, get_or_past, get_or-set_same, get_or-set_other}
-use Rattle.xd_ledger.specs.Numbers.{times, among, without}
+use Rattle.xd_run.specs.Numbers.{times, among, without}
 use Rattle.xd_ledger.specs.Chains.{at, owner_of, no_chain, walk, chain, Nexts, Backs, IsLinkedChain, AreChains, changed, part_before, part_after}
-use Rattle.xd_ledger.proofs.Counts.{few_of-kind}
+use Rattle.xd_run.proofs.Counts.{few_of-kind}
 use Rattle.xd_ledger.proofs.Links.{first_or, last_or, walked, swapped, same, nexts_else, backs_else, nexts_put, backs_put, nexts_first, backs_first, nexts_taken, backs_taken, next-at, back-at, next-of, back-of, around, times-append, times-first, times-last, without-around}
 
 pub by_cases : {P : Type 0} (b : Bool) → (b ≡ true → P) → (b ≡ false → P) → P

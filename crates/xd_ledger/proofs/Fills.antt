@@ -6,12 +6,12 @@ use Rattle.std.proofs.lemmas.List.{length-map}
 use Rattle.std.proofs.lemmas.Bool.Decides.{nat_tests}
 use Rattle.xd_ledger.specs.declared.post.Post.{Post}
 use Rattle.xd_ledger.specs.Chains.{Lists, chain_at, chains_of, changed}
-use Rattle.xd_ledger.specs.Numbers.{times, without, first_of}
+use Rattle.xd_run.specs.Numbers.{times, without, first_of}
 use Rattle.xd_ledger.specs.Posts.{seat_of, seats, chains_in, chain_in, table_of, released, IsKept}
 use Rattle.xd_ledger.specs.Sound.{IsSound}
-use Rattle.xd_ledger.specs.Table.{Table, fresh_table, held_in, held_by_all, all_items, retried_item, has_joined, joined}
+use Rattle.xd_run.specs.Table.{Table, fresh_table, held_in, held_by_all, all_items, retried_item, has_joined, joined}
 use Rattle.xd_ledger.proofs.ChainMoves.{by_cases, equals, changed-here, changed-else}
-use Rattle.xd_ledger.proofs.Counts.{few_of-kind}
+use Rattle.xd_run.proofs.Counts.{few_of-kind}
 use Rattle.xd_ledger.proofs.Kept.{Has, kept_again, table-eq, released-pool, released-else, released-rest}
 use Rattle.xd_ledger.proofs.Links.{same, without-around}
 use Rattle.xd_ledger.proofs.Places.{times-table, held_within}

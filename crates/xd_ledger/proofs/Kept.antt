@@ -4,12 +4,12 @@ use Rattle.std.specs.Prelude.{◌==◌, filter}
 use Rattle.std.specs.List.{list_any}
 use Rattle.std.proofs.lemmas.Bool.Decides.{nat_tests}
 use Rattle.xd_ledger.specs.declared.post.Post.{Post}
-use Rattle.xd_ledger.specs.declared.seat.Seat.{Seat}
+use Rattle.xd_run.specs.declared.seat.Seat.{Seat}
 use Rattle.xd_ledger.specs.Chains.{Lists, chain_at, chains_of, changed, shifted, poured}
-use Rattle.xd_ledger.specs.Numbers.{among, without, all_among, all_distinct, times}
+use Rattle.xd_run.specs.Numbers.{among, without, all_among, all_distinct, times}
 use Rattle.xd_ledger.specs.Posts.{seats, chains_in, chain_in, place_in, table_of, released, IsKept}
 use Rattle.xd_ledger.specs.Sound.{IsSound, seats_of}
-use Rattle.xd_ledger.specs.Table.{Table, held, retried_item, crash_item, in_rota, assigned, completed, given_back, died, left_rota, shut_down}
+use Rattle.xd_run.specs.Table.{Table, held, retried_item, crash_item, in_rota, assigned, completed, given_back, died, left_rota, shut_down}
 use Rattle.xd_ledger.proofs.ChainMoves.{changed-here, changed-else}
 use Rattle.xd_ledger.proofs.ChainCalls.{shifted-to, shifted-from, shifted-else, poured-to, poured-else}
 use Rattle.xd_ledger.proofs.Links.{same, swapped}

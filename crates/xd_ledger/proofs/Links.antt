@@ -3,7 +3,7 @@ use Rattle.std.proofs.Common.{◌≡◌, ℕ, suc, ◌+◌, ◌≤◌, List, [],
 use Rattle.std.specs.Prelude.{◌==◌}
 use Rattle.std.proofs.lemmas.Bool.Decides.{nat_tests}
 use Rattle.std.proofs.lemmas.Grind.{common_steps}
-use Rattle.xd_ledger.specs.Numbers.{times, among, without}
+use Rattle.xd_run.specs.Numbers.{times, among, without}
 use Rattle.xd_ledger.specs.Chains.{at, walk, Nexts, Backs, part_before, part_after}
 
 -- the first number of the list; the other one where it is empty

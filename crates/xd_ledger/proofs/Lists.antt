@@ -5,7 +5,7 @@ use Rattle.std.specs.Prelude.{◌||◌, ◌==◌, filter}
 use Rattle.std.specs.List.{range_with_len}
 use Rattle.std.proofs.lemmas.Bool.Decides.{nat_tests}
 use Rattle.xd_ledger.specs.Chains.{part_before, part_after, final_of}
-use Rattle.xd_ledger.specs.Numbers.{among, all_among, all_distinct, first_of}
+use Rattle.xd_run.specs.Numbers.{among, all_among, all_distinct, first_of}
 
 -- parts of a list
 

@@ -5,9 +5,9 @@ use Rattle.std.specs.List.{list_any, list_all}
 use Rattle.std.proofs.lemmas.Bool.Decides.{nat_tests}
 use Rattle.xd_ledger.specs.declared.post.Post.{Post}
 use Rattle.xd_ledger.specs.Chains.{Lists, chain_at}
-use Rattle.xd_ledger.specs.Numbers.{times}
+use Rattle.xd_run.specs.Numbers.{times}
 use Rattle.xd_ledger.specs.Posts.{seats, chains_in, chain_in, place_in, table_of, IsKept}
-use Rattle.xd_ledger.specs.Table.{Table, in_rota, seat_shut, shut_down}
+use Rattle.xd_run.specs.Table.{Table, in_rota, seat_shut, shut_down}
 use Rattle.xd_ledger.proofs.ChainMoves.{by_cases}
 use Rattle.xd_ledger.proofs.Kept.{has, shut_table, shut_kept}
 use Rattle.xd_ledger.proofs.Links.{same}

@@ -5,9 +5,9 @@ use Rattle.std.specs.List.{range_with_len}
 use Rattle.std.proofs.lemmas.Bool.Decides.{nat_tests}
 use Rattle.std.proofs.lemmas.List.{get_or_append_left, get_or_push, get_or_past, get_or-replicate, length-replicate}
 use Rattle.std.proofs.lemmas.List.FromFn.{length-range_with_len, get_or-range_with_len}
-use Rattle.xd_ledger.specs.Numbers.{times}
+use Rattle.xd_run.specs.Numbers.{times}
 use Rattle.xd_ledger.specs.Chains.{at, owner_of, no_chain, chain, Nexts, Backs, IsLinkedChain, AreChains, changed}
-use Rattle.xd_ledger.proofs.Counts.{times-range}
+use Rattle.xd_run.proofs.Counts.{times-range}
 use Rattle.xd_ledger.proofs.Links.{same}
 use Rattle.xd_ledger.proofs.ChainMoves.{by_cases, equals, changed-here, changed-else, Gives, chain-past, chains-long, stands-below, stands-walk, gives}
 

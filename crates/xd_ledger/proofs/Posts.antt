@@ -5,11 +5,11 @@ use Rattle.std.specs.List.{list_any}
 use Rattle.std.proofs.lemmas.Bool.Decides.{nat_tests}
 use Rattle.std.proofs.lemmas.Grind.{common_steps}
 use Rattle.xd_ledger.specs.declared.post.Post.{Post}
-use Rattle.xd_ledger.specs.declared.seat.Seat.{Seat}
-use Rattle.xd_ledger.specs.Numbers.{times}
+use Rattle.xd_run.specs.declared.seat.Seat.{Seat}
+use Rattle.xd_run.specs.Numbers.{times}
 use Rattle.xd_ledger.specs.Posts.{seat_of, seats, chains_in, chain_in, place_in}
 use Rattle.xd_ledger.specs.Sound.{seats_of}
-use Rattle.xd_ledger.specs.Table.{held_in, at_seat, without_seat}
+use Rattle.xd_run.specs.Table.{held_in, at_seat, without_seat}
 use Rattle.xd_ledger.proofs.ChainMoves.{by_cases, equals}
 use Rattle.xd_ledger.proofs.Links.{same, swapped}
 use Rattle.xd_ledger.proofs.Seats.{no_seat-same}

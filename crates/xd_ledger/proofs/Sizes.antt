@@ -4,10 +4,10 @@ use Rattle.std.specs.Prelude.{unwrap_or}
 use Rattle.std.specs.List.{range_with_len}
 use Rattle.std.proofs.lemmas.Bool.Decides.{nat_tests}
 use Rattle.std.proofs.lemmas.Grind.{common_steps}
-use Rattle.xd_ledger.specs.declared.seat.Seat.{Seat}
-use Rattle.xd_ledger.specs.Numbers.{among, times, all_distinct, all_among, first_of}
+use Rattle.xd_run.specs.declared.seat.Seat.{Seat}
+use Rattle.xd_run.specs.Numbers.{among, times, all_distinct, all_among, first_of}
 use Rattle.xd_ledger.specs.Sound.{IsSound}
-use Rattle.xd_ledger.specs.Table.{Table, fresh_table, held_in, held_by_all, all_items}
+use Rattle.xd_run.specs.Table.{Table, fresh_table, held_in, held_by_all, all_items}
 use Rattle.xd_ledger.proofs.Places.{times-append, times-table}
 
 pub length-table : (t : Table) → length (all_items t) ≡ length t.pool + (length (held_by_all t.rota) + length t.reported)

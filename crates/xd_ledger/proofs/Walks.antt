@@ -3,7 +3,7 @@ use Rattle.std.proofs.Common.{◌≡◌, ℕ, zero, suc, take, drop, ◌+◌, �
 use Rattle.std.proofs.lemmas.Bool.Decides.{nat_tests}
 use Rattle.std.proofs.lemmas.List.{get_or_read}
 use Rattle.std.proofs.Math.Seq.{drop-cons, drop-length, take-length}
-use Rattle.xd_ledger.specs.Numbers.{times}
+use Rattle.xd_run.specs.Numbers.{times}
 use Rattle.xd_ledger.specs.Chains.{Lists, chain_at, chains_of, at, chain, AreChains, Nexts, Backs}
 use Rattle.xd_ledger.proofs.Links.{first_or, last_or, same, next-of, back-of}
 use Rattle.xd_ledger.proofs.ChainMoves.{stands-below, chains-long}

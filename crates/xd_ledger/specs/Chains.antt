@@ -2,7 +2,7 @@
 -- after it and the one before it. The places are the numbers, and after them an end for each list, which stands before
 -- its first number and after its last.
 use Rattle.std.specs.Prelude.{◌≡◌, ℕ, zero, suc, ◌+◌, ◌==◌, ◌≤◌, ◌<◌, Bool, false, List, [], ◌∷◌, ◌++◌, take, drop, length, get_or, Option, Some, None, if◌then◌else◌}
-use Rattle.xd_ledger.specs.Numbers.{times, without}
+use Rattle.xd_run.specs.Numbers.{times, without}
 
 -- the number that stands at the place; 0 where none does
 abbrev pub at : List ℕ → ℕ → ℕ

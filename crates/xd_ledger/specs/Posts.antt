@@ -1,11 +1,11 @@
 -- The seats that the ledger's own posts stand for, and when the ledger is in order.
 use Rattle.std.specs.Prelude.{ℕ, zero, suc, ◌≤◌, ◌<◌, ◌==◌, Bool, List, [], ◌∷◌, ◌++◌, drop, map, if◌then◌else◌}
 use Rattle.xd_ledger.specs.declared.post.Post.{Post}
-use Rattle.xd_ledger.specs.declared.seat.Seat.{Seat}
+use Rattle.xd_run.specs.declared.seat.Seat.{Seat}
 use Rattle.xd_ledger.specs.Chains.{Lists, chain_at, chains_of, changed}
-use Rattle.xd_ledger.specs.Numbers.{times}
+use Rattle.xd_run.specs.Numbers.{times}
 use Rattle.xd_ledger.specs.Sound.{IsSound}
-use Rattle.xd_ledger.specs.Table.{Table, retried_item}
+use Rattle.xd_run.specs.Table.{Table, retried_item}
 
 -- the seat that a post stands for: the worker holds what its list has
 abbrev pub seat_of : (ℕ → List ℕ) → Post → Seat

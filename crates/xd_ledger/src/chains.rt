@@ -1,7 +1,7 @@
 // Lists of numbers, each number linked with its neighbours.
 ghost use Rattle.std.specs.Prelude.{◌≡◌, ℕ, take, drop, slice_index, ◌+◌, ◌-◌, replicate, is_ok, IfOk, OnOk, ◌<◌, ◌≤◌, ◌==◌, [], ◌∷◌, ◌++◌, length, nat_lt, true, false, Some, None, if◌then◌else◌};
 ghost use Rattle.std.specs.List.{range_with_len};
-ghost use Rattle.xd_ledger.specs.Numbers.{among, all_among, all_distinct, without, first_of};
+ghost use Rattle.xd_run.specs.Numbers.{among, all_among, all_distinct, without, first_of};
 ghost use Rattle.xd_ledger.specs.Chains.{chain_at, is_unchained, number_count, chains_of, changed, shifted, poured, part_before, part_after, final_of};
 
 use std::alloc::{AllocError, Global};

@@ -1,6 +1,6 @@
 // Who joined.
 ghost use Rattle.std.specs.Prelude.{◌≡◌, ◌++◌, ◌∷◌, [], is_ok, if◌then◌else◌};
-ghost use Rattle.xd_ledger.specs.Numbers.{among};
+ghost use Rattle.xd_run.specs.Numbers.{among};
 
 use std::alloc::Global;
 use std::collections::BTreeSet;
@@ -18,7 +18,7 @@ impl Model for Joined {
     ghost use Rattle.std.specs.Prelude.{◌≡◌, ℕ, List};
     ghost use Rattle.std.specs.BTreeSet.{contains};
     ghost use Rattle.std.specs.Ordering.{nat_cmp};
-    ghost use Rattle.xd_ledger.specs.Numbers.{among};
+    ghost use Rattle.xd_run.specs.Numbers.{among};
 
     ghost Value = { List ℕ };
 

@@ -1,9 +1,9 @@
 // The moves that the rules of modes are made of.
 ghost use Rattle.std.specs.Prelude.{◌≡◌, ◌++◌, ◌∷◌, [], OnOk, true};
 ghost use Rattle.xd_ledger.specs.Calls.{turn};
-ghost use Rattle.xd_ledger.specs.Plan.{Plan};
-ghost use Rattle.xd_ledger.specs.Table.{in_rota, workers_of};
-ghost use Rattle.xd_ledger.specs.Turn.{give_front, shut, shut_each};
+ghost use Rattle.xd_run.specs.Plan.{Plan};
+ghost use Rattle.xd_run.specs.Table.{in_rota, workers_of};
+ghost use Rattle.xd_run.specs.Turn.{give_front, shut, shut_each};
 
 use crate::Ledger;
 use std::alloc::Global;

@@ -3,8 +3,8 @@ ghost use Rattle.std.specs.Prelude.{nat_lt, ◌≡◌, ◌<◌, ◌≤◌, ◌++
 ghost use Rattle.std.specs.List.{list_all};
 ghost use Rattle.xd_ledger.specs.Calls.{last_of};
 ghost use Rattle.xd_ledger.specs.Chains.{chain_at, chains_of, part_before, part_after, final_of};
-ghost use Rattle.xd_ledger.specs.Numbers.{among, first_of};
-ghost use Rattle.xd_ledger.specs.Table.{has_joined, held, held_by_all, in_rota, seat_shut, workers_of};
+ghost use Rattle.xd_run.specs.Numbers.{among, first_of};
+ghost use Rattle.xd_run.specs.Table.{has_joined, held, held_by_all, in_rota, seat_shut, workers_of};
 
 use crate::Ledger;
 use crate::chains::Chains;

@@ -8,16 +8,16 @@ use Rattle.std.proofs.lemmas.List.{drop_more, take_more}
 use Rattle.std.proofs.lemmas.List.Sums.{fold_more}
 use Rattle.xd_edge.specs.declared.mode.ModeKind.TheVariants.{Each}
 use Rattle.xd_ledger.specs.Chains.{part_after}
-use Rattle.xd_ledger.specs.Numbers.{among, without, all_distinct, all_among, first_of}
+use Rattle.xd_run.specs.Numbers.{among, without, all_distinct, all_among, first_of}
 use Rattle.xd_journal.specs.declared.entry.Entry.{Entry}
 use Rattle.xd_journal.specs.declared.entry.Entry.TheVariants.{RunAll}
 use Rattle.xd_ledger.specs.Calls.{turn}
-use Rattle.xd_ledger.specs.Plan.{Plan, slot_items}
-use Rattle.xd_ledger.specs.Table.{Table, assigned, workers_of}
-use Rattle.xd_ledger.specs.Turn.{Turn, shut}
-use Rattle.xd_ledger.specs.Each.{give_all, give_of_slot, give_slots}
-use Rattle.xd_ledger.proofs.Parts.{parts-apart, parts-within}
-use Rattle.xd_ledger.proofs.Turns.{workers-at_seat, workers-shut_turn}
+use Rattle.xd_run.specs.Plan.{Plan, slot_items}
+use Rattle.xd_run.specs.Table.{Table, assigned, workers_of}
+use Rattle.xd_run.specs.Turn.{Turn, shut}
+use Rattle.xd_run.specs.Each.{give_all, give_of_slot, give_slots}
+use Rattle.xd_run.proofs.Parts.{parts-apart, parts-within}
+use Rattle.xd_run.proofs.Turns.{workers-at_seat, workers-shut_turn}
 use Rattle.xd_ledger.proofs.Lists.{among-append, among-at, among-filter, all_among-of, among-range, following-at, distinct-drop, first-drop}
 use Rattle.xd_load.specs.Slots.{AreWaiting, InSlots, first_in, items_in}
 

@@ -2,13 +2,13 @@
 use Rattle.std.proofs.Common.{◌≡◌, sym, ◌*◌, nat_lt, ℕ, ◌<◌, List, [], ◌∷◌, ◌++◌, take, length, Bool, true, false, refl, ap, ◌∙◌, arith}
 use Rattle.std.specs.Prelude.{if◌then◌else◌, Some, None}
 use Rattle.std.proofs.lemmas.Bool.Decides.{nat_tests}
-use Rattle.xd_ledger.specs.Table.{workers_of, seat_shut, held}
+use Rattle.xd_run.specs.Table.{workers_of, seat_shut, held}
 use Rattle.xd_edge.specs.declared.mode.ModeKind.TheVariants.{Load}
 use Rattle.xd_load.specs.Stands.{InChunks}
-use Rattle.xd_ledger.specs.Plan.{Plan, chunk_of}
-use Rattle.xd_ledger.specs.Turn.{Turn, in_turn, give_front, shut}
-use Rattle.xd_ledger.specs.Load.{load_refill, topped_up, more, is_due, give_unless_shut, dealt_singly}
-use Rattle.xd_ledger.proofs.Turns.{workers-give, workers-shut_turn, in_turn-append}
+use Rattle.xd_run.specs.Plan.{Plan, chunk_of}
+use Rattle.xd_run.specs.Turn.{Turn, in_turn, give_front, shut}
+use Rattle.xd_run.specs.Load.{load_refill, topped_up, more, is_due, give_unless_shut, dealt_singly}
+use Rattle.xd_run.proofs.Turns.{workers-give, workers-shut_turn, in_turn-append}
 
 pub workers-topped_up : (ms w : ℕ) (t : Turn) → workers_of (topped_up ms w t).table ≡ workers_of t.table
 workers-topped_up ms w t =

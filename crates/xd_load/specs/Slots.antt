@@ -2,8 +2,8 @@
 use Rattle.std.specs.Prelude.{◌≡◌, ℕ, true, List, None, take, sum, slice_index}
 use Rattle.std.specs.List.{range_with_len}
 use Rattle.xd_edge.specs.declared.mode.ModeKind.TheVariants.{Each}
-use Rattle.xd_ledger.specs.Numbers.{among}
-use Rattle.xd_ledger.specs.Plan.{Plan}
+use Rattle.xd_run.specs.Numbers.{among}
+use Rattle.xd_run.specs.Plan.{Plan}
 
 -- it keeps how many tests each slot has, and nobody steals
 pub record InSlots (counts : List ℕ) (p : Plan) : Type 0 where

@@ -1,7 +1,7 @@
 -- The plans that a mode load stands for.
 use Rattle.std.specs.Prelude.{◌≡◌, ℕ, Option, None, sum}
 use Rattle.xd_edge.specs.declared.mode.ModeKind.TheVariants.{Load}
-use Rattle.xd_ledger.specs.Plan.{Plan, chunk_of}
+use Rattle.xd_run.specs.Plan.{Plan, chunk_of}
 
 -- it keeps the setting of the chunk and the number of tests, and nobody steals
 -- Example: `Load::new` with a chunk of 3 stands for no plan whose chunk is 4.

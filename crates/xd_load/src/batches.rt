@@ -1,10 +1,10 @@
 // The batches of mode load.
 ghost use Rattle.std.specs.Prelude.{◌≡◌, ◌<◌, OnOk, true};
 ghost use Rattle.xd_ledger.specs.Calls.{turn};
-ghost use Rattle.xd_ledger.specs.Load.{more, is_due, load_refill, load_refill_all, give_unless_shut, dealt_singly, load_share};
-ghost use Rattle.xd_ledger.specs.Plan.{Plan};
-ghost use Rattle.xd_ledger.specs.Table.{in_rota, workers_of};
-ghost use Rattle.xd_ledger.specs.Turn.{in_turn};
+ghost use Rattle.xd_run.specs.Load.{more, is_due, load_refill, load_refill_all, give_unless_shut, dealt_singly, load_share};
+ghost use Rattle.xd_run.specs.Plan.{Plan};
+ghost use Rattle.xd_run.specs.Table.{in_rota, workers_of};
+ghost use Rattle.xd_run.specs.Turn.{in_turn};
 ghost use Rattle.xd_load.specs.Stands.{InChunks};
 
 use std::alloc::Global;

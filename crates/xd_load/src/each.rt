@@ -1,7 +1,7 @@
 // The mode.
 ghost use Rattle.std.specs.Prelude.{◌≡◌, [], None};
 ghost use Rattle.xd_edge.specs.declared.mode.ModeKind.TheVariants.{Each as InModeEach};
-ghost use Rattle.xd_ledger.specs.Plan.{Plan};
+ghost use Rattle.xd_run.specs.Plan.{Plan};
 ghost use Rattle.xd_load.specs.Slots.{InSlots};
 
 use crate::sizes::Sizes;

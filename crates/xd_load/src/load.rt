@@ -1,7 +1,7 @@
 // The mode.
 ghost use Rattle.std.specs.Prelude.{◌≡◌, [], None, unwrap_or};
 ghost use Rattle.xd_edge.specs.declared.mode.ModeKind.TheVariants.{Load as InModeLoad};
-ghost use Rattle.xd_ledger.specs.Plan.{Plan};
+ghost use Rattle.xd_run.specs.Plan.{Plan};
 ghost use Rattle.xd_load.specs.Stands.{StandsForLoad};
 
 use crate::batches::{refill_each, refill_one, share_all};

@@ -24,7 +24,7 @@ impl Model for Sizes {
 }
 
 // That many numbers, from this one on.
-#[tactic(auto, using(xd_ledger::proofs::Counts::range_more))]
+#[tactic(auto, using(xd_run::proofs::Counts::range_more))]
 fn range(alloc: Global, start: u32, len: u32) -> Result<Indices, OutOfMemory>
     requires { start + len < 2 ^ 32 }
     ensures { IfOk result (λ r. r ≡ range_with_len start len) }

@@ -3,10 +3,10 @@ ghost use Rattle.std.specs.Prelude.{◌≡◌, ◌+◌, ◌-◌, ◌<◌, ◌^�
 ghost use Rattle.std.specs.List.{range_with_len};
 ghost use Rattle.xd_journal.specs.declared.entry.Entry.TheVariants.{RunAll};
 ghost use Rattle.xd_ledger.specs.Calls.{turn};
-ghost use Rattle.xd_ledger.specs.Each.{give_all, give_of_slot, joins, remainder, each_share};
-ghost use Rattle.xd_ledger.specs.Numbers.{all_among, all_distinct, among};
-ghost use Rattle.xd_ledger.specs.Plan.{Plan};
-ghost use Rattle.xd_ledger.specs.Table.{assigned, in_rota, workers_of};
+ghost use Rattle.xd_run.specs.Each.{give_all, give_of_slot, joins, remainder, each_share};
+ghost use Rattle.xd_run.specs.Numbers.{all_among, all_distinct, among};
+ghost use Rattle.xd_run.specs.Plan.{Plan};
+ghost use Rattle.xd_run.specs.Table.{assigned, in_rota, workers_of};
 ghost use Rattle.xd_load.specs.Slots.{AreWaiting, InSlots, items_in};
 
 use crate::sizes::Sizes;

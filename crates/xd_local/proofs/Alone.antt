@@ -12,19 +12,19 @@ use Rattle.xd_journal.specs.declared.entry.RunStop.{RunStop}
 use Rattle.xd_journal.specs.declared.entry.RunStop.TheVariants.{Completed, MaxFail}
 use Rattle.xd_journal.specs.Stop.{reaches}
 use Rattle.xd_journal.specs.Local.{TestResult, round, rounds}
-use Rattle.xd_ledger.specs.Books.{Books}
-use Rattle.xd_ledger.specs.Stops.{or_stop}
-use Rattle.xd_ledger.specs.Plan.{Plan, base, is_each, items_named}
-use Rattle.xd_ledger.specs.Reports.{Report, item_of, reports_from}
-use Rattle.xd_ledger.specs.Reports.Report.{Result}
-use Rattle.xd_ledger.specs.Sharing.{State}
-use Rattle.xd_ledger.specs.Results.{done_books, failing}
-use Rattle.xd_ledger.specs.State.{after_entries, after_effect, settled}
-use Rattle.xd_ledger.specs.Workers.{slot_of}
+use Rattle.xd_run.specs.Books.{Books}
+use Rattle.xd_run.specs.Stops.{or_stop}
+use Rattle.xd_run.specs.Plan.{Plan, base, is_each, items_named}
+use Rattle.xd_run.specs.Reports.{Report, item_of, reports_from}
+use Rattle.xd_run.specs.Reports.Report.{Result}
+use Rattle.xd_run.specs.Sharing.{State}
+use Rattle.xd_run.specs.Results.{done_books, failing}
+use Rattle.xd_run.specs.State.{after_entries, after_effect, settled}
+use Rattle.xd_run.specs.Workers.{slot_of}
 use Rattle.xd_child.specs.Ending.{fault_count}
 use Rattle.xd_local.specs.Local.{faults_of_reports, report_faults, stop_at}
 use Rattle.xd_local.specs.Print.{failures_in}
-use Rattle.xd_local.specs.Running.{BelowLimit, failed_of, result_faults}
+use Rattle.xd_local.specs.inner.Running.{BelowLimit, failed_of, result_faults}
 
 -- the reports of the tests from a number on
 abbrev pub reports_alone : ℕ → List TestResult → List Report

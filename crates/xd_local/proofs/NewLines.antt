@@ -6,13 +6,13 @@ use Rattle.xd_journal.specs.declared.entry.Entry.{Entry}
 use Rattle.xd_journal.specs.declared.journal.Journal.{Journal}
 use Rattle.xd_journal.specs.declared.settings.Settings.{Settings}
 use Rattle.xd_journal.specs.Local.{round}
-use Rattle.xd_ledger.specs.State.{after_entries, no_one}
+use Rattle.xd_run.specs.State.{after_entries, no_one}
 use Rattle.xd_report.specs.declared.reporter.Reporter.{Reporter}
 use Rattle.xd_report.specs.Follows.{Follows}
 use Rattle.xd_report.specs.Lines.{lines_from}
 use Rattle.xd_report.specs.Printing.{ShowsLines}
 use Rattle.xd_report.proofs.Texts.{after_effect-more}
-use Rattle.xd_local.specs.Running.{IsNoted, NotesTest, RanTest, Running, FollowsJournal, after_journal}
+use Rattle.xd_local.specs.inner.Running.{IsNoted, NotesTest, RanTest, Running, FollowsJournal, after_journal}
 use Rattle.xd_edge.specs.Clock.{Ticking}
 
 -- the entries that came last

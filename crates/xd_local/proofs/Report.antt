@@ -6,7 +6,7 @@ use Rattle.xd_edge.proofs.SinkLemmas.{printed_part_of_more}
 use Rattle.xd_suite.specs.declared.test.Test.{Test}
 use Rattle.xd_journal.specs.declared.entry.Entry.{Entry}
 use Rattle.xd_journal.specs.declared.settings.Settings.{Settings}
-use Rattle.xd_ledger.specs.State.{after_entries, no_one}
+use Rattle.xd_run.specs.State.{after_entries, no_one}
 use Rattle.xd_report.specs.Lines.{lines_from, run_lines}
 use Rattle.xd_report.specs.Text.{run_tail, run_text, tail_text}
 use Rattle.xd_report.specs.Breaking.{BrokeAtEnd}
@@ -14,7 +14,7 @@ use Rattle.xd_report.specs.Printing.{ShowsEnd}
 use Rattle.xd_report.proofs.Prints.{shows-end}
 use Rattle.xd_report.proofs.Texts.{lines-more}
 use Rattle.xd_local.specs.Print.{AtStep, OutputFailedAt}
-use Rattle.xd_local.specs.Running.{HasEnded, RanAll, RanPrinted, LocalScene, ShowsReport}
+use Rattle.xd_local.specs.inner.Running.{HasEnded, RanAll, RanPrinted, LocalScene, ShowsReport}
 
 module _ (tests : List Test) (old : LocalScene) where
   pub not_ran : (new : LocalScene) → RanAll false tests old new → RanPrinted false tests old new

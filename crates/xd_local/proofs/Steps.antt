@@ -23,8 +23,8 @@ use Rattle.xd_journal.specs.declared.settings.Settings.{Settings}
 use Rattle.xd_journal.specs.Kept.{most_of_one, output_room, kept_of}
 use Rattle.xd_journal.specs.Local.{TestResult, round, rounds, local_entries}
 use Rattle.xd_journal.specs.Stop.{reaches}
-use Rattle.xd_ledger.specs.State.{after_entries, after_entry, no_one}
-use Rattle.xd_ledger.specs.Stops.{is_stopped}
+use Rattle.xd_run.specs.State.{after_entries, after_entry, no_one}
+use Rattle.xd_run.specs.Stops.{is_stopped}
 use Rattle.xd_report.specs.Follows.{Follows}
 use Rattle.xd_report.specs.Printing.{ShowsLines}
 use Rattle.xd_report.specs.Lines.{lines_from, run_lines}
@@ -35,7 +35,7 @@ use Rattle.xd_local.specs.Local.{kept_by, kept_of_starts, local_settings, RanTes
 use Rattle.xd_local.specs.Outside.{Programs}
 use Rattle.xd_local.specs.Timing.{AreTimed}
 use Rattle.xd_local.specs.Print.{AtStep}
-use Rattle.xd_local.specs.Running.{child_of, failed_of, ids_of_tests, result_faults, after_journal, WasCollected, Progress, RanAll, RanTest, Running, LocalScene, SoFar}
+use Rattle.xd_local.specs.inner.Running.{child_of, failed_of, ids_of_tests, result_faults, after_journal, WasCollected, Progress, RanAll, RanTest, Running, LocalScene, SoFar}
 use Rattle.xd_local.proofs.Alone.{below-next, is_some-stop, stop-begun, stop_by}
 use Rattle.xd_local.proofs.Timings.{timed_more}
 

@@ -15,13 +15,13 @@ use Rattle.xd_journal.specs.declared.entry.RunStop.TheVariants.{Completed, MaxFa
 use Rattle.xd_journal.specs.declared.journal.Journal.{Journal}
 use Rattle.xd_journal.specs.Local.{TestResult, local_entries, rounds}
 use Rattle.xd_journal.specs.Stop.{reaches}
-use Rattle.xd_ledger.specs.Legal.{IsLegal, books_after}
-use Rattle.xd_ledger.specs.Reports.{NamesInOrder, Report, collected_ids, item_of, reports, reports_in}
-use Rattle.xd_ledger.specs.Sharing.{State, ids_at}
-use Rattle.xd_ledger.specs.Stops.{is_stopped}
-use Rattle.xd_ledger.specs.Ending.{over_in, stop_of}
-use Rattle.xd_ledger.specs.Histories.{run_end_of}
-use Rattle.xd_ledger.specs.State.{after_entries, after_entry, no_one, state_at}
+use Rattle.xd_run.specs.Legal.{IsLegal, books_after}
+use Rattle.xd_run.specs.Reports.{NamesInOrder, Report, collected_ids, item_of, reports, reports_in}
+use Rattle.xd_run.specs.Sharing.{State, ids_at}
+use Rattle.xd_run.specs.Stops.{is_stopped}
+use Rattle.xd_run.specs.Ending.{over_in, stop_of}
+use Rattle.xd_run.specs.Histories.{run_end_of}
+use Rattle.xd_run.specs.State.{after_entries, after_entry, no_one, state_at}
 use Rattle.xd_report.specs.Blocks.{blocks_from}
 use Rattle.xd_report.specs.EachReport.{HasNamedBlockEach, HasNamedLineEach, NamesTests, id_in, kept_outputs}
 use Rattle.xd_report.specs.declared.reporter.Reporter.{Reporter}
@@ -39,7 +39,7 @@ use Rattle.xd_local.specs.Local.{faults_of_reports, KeepsLimit, RunsSuite, RunsT
 use Rattle.xd_local.specs.Outside.{Programs}
 use Rattle.xd_edge.specs.Clock.{Ticking}
 use Rattle.xd_local.specs.Print.{AtStep, AtEndOfTests, DidAll, OutputFailedAt, PrintsReport, failures_in}
-use Rattle.xd_local.specs.Running.{BelowLimit, ClosedJournal, HasCollected, HasEnded, HasStatus, WasCollected, NothingCollected, RanPrinted, Running, LocalScene, ShowsReport, FollowsJournal, after_journal, failed_of, ids_of_tests}
+use Rattle.xd_local.specs.inner.Running.{BelowLimit, ClosedJournal, HasCollected, HasEnded, HasStatus, WasCollected, NothingCollected, RanPrinted, Running, LocalScene, ShowsReport, FollowsJournal, after_journal, failed_of, ids_of_tests}
 use Rattle.xd_local.proofs.Alone.{below-at, below-first, eq_same, failures-alone, failures-rounds, faults-alone, is_some-stop, items-alone, length-alone, lists-rounds, low-none, reports-rounds, reports_alone, stop-begun, stop_by, take-alone, unwrap-stop}
 use Rattle.xd_local.proofs.Report.{failed_part}
 

@@ -1,5 +1,5 @@
 pub mod Local
 pub mod Outside
 pub mod Print
-pub mod Running
 pub mod Timing
+pub mod inner

@@ -13,10 +13,10 @@ use Rattle.xd_journal.specs.declared.journal.Journal.{Journal}
 use Rattle.xd_journal.specs.Kept.{most_of_one, most_of_all, output_room, kept_of}
 use Rattle.xd_journal.specs.Local.{TestResult, local_entries}
 use Rattle.xd_journal.specs.Stop.{reaches}
-use Rattle.xd_ledger.specs.Ending.{stop_of}
-use Rattle.xd_ledger.specs.Legal.{IsLegal}
-use Rattle.xd_ledger.specs.Reports.{NamesInOrder, Report, reports_in}
-use Rattle.xd_ledger.specs.Reports.Report.{Result, Crash}
+use Rattle.xd_run.specs.Ending.{stop_of}
+use Rattle.xd_run.specs.Legal.{IsLegal}
+use Rattle.xd_run.specs.Reports.{NamesInOrder, Report, reports_in}
+use Rattle.xd_run.specs.Reports.Report.{Result, Crash}
 use Rattle.xd_report.specs.EachReport.{NamesTests}
 use Rattle.xd_child.specs.Ending.{fault_count, outcome_of}
 use Rattle.xd_local.specs.Outside.{Reach}

@@ -10,7 +10,7 @@ use Rattle.xd_journal.specs.declared.journal.Journal.{Journal}
 use Rattle.xd_journal.specs.declared.settings.Settings.{Settings}
 use Rattle.xd_journal.specs.Local.{TestResult, round}
 use Rattle.xd_journal.specs.Stop.{reaches}
-use Rattle.xd_ledger.specs.Reports.{Report, collected_ids, reports_in}
+use Rattle.xd_run.specs.Reports.{Report, collected_ids, reports_in}
 use Rattle.xd_report.specs.Breaking.{BrokeAtEnd, BrokeAtLines}
 use Rattle.xd_report.specs.EachReport.{is_failure}
 use Rattle.xd_report.specs.Printing.{ShowsEnd}

@@ -3,16 +3,16 @@ ghost use Rattle.std.specs.Prelude.{◌≡◌, ◌<◌, ◌≤◌, drop, length,
 ghost use Rattle.xd_edge.specs.Faults.{Counted};
 ghost use Rattle.xd_suite.specs.Tests.{run_at};
 ghost use Rattle.xd_journal.specs.Kept.{most_of_all, output_room};
-ghost use Rattle.xd_ledger.specs.Sharing.{State};
-ghost use Rattle.xd_ledger.specs.State.{after_entries};
-ghost use Rattle.xd_ledger.specs.Stops.{is_stopped};
+ghost use Rattle.xd_run.specs.Sharing.{State};
+ghost use Rattle.xd_run.specs.State.{after_entries};
+ghost use Rattle.xd_run.specs.Stops.{is_stopped};
 ghost use Rattle.xd_report.specs.Follows.{Follows};
 ghost use Rattle.xd_report.specs.Lines.{lines_from};
 ghost use Rattle.xd_report.specs.Printing.{OnPrinted, ShowsEnd, ShowsLines};
 ghost use Rattle.xd_report.specs.Text.{tail_text};
 ghost use Rattle.xd_local.specs.Local.{local_settings, stop_after};
-ghost use Rattle.xd_local.specs.Running.{AddsRound, ClosedJournal, HasCollected, HasStatus, WasCollected, NothingCollected, NotesTest};
-ghost use Rattle.xd_local.specs.Running.{RanAll, RanPrinted, RanTest, FollowsJournal, after_journal, local_scene};
+ghost use Rattle.xd_local.specs.inner.Running.{AddsRound, ClosedJournal, HasCollected, HasStatus, WasCollected, NothingCollected, NotesTest};
+ghost use Rattle.xd_local.specs.inner.Running.{RanAll, RanPrinted, RanTest, FollowsJournal, after_journal, local_scene};
 
 use crate::local::LocalRun;
 use std::alloc::Global;
@@ -37,7 +37,7 @@ pub struct Run<K: Children> {
 }
 
 impl<K: Children> Model for Run<K> {
-    ghost use Rattle.xd_local.specs.Running.{Running};
+    ghost use Rattle.xd_local.specs.inner.Running.{Running};
 
     ghost Value = { Running };
 

@@ -27,7 +27,7 @@ use Rattle.xd_reader.specs.declared.news.LinkStop.{LinkStop}
 use Rattle.xd_reader.specs.declared.news.LinkStop.TheVariants as stop
 use Rattle.xd_reader.specs.Judged.{greeting_byte, link_stop_of}
 use Rattle.xd_reader.specs.Reads.{GoLess, Puts, Reads, StopsAt}
-use Rattle.xd_reader.specs.Reading.{Listens, Steps, stop_of_fault}
+use Rattle.xd_reader.specs.inner.Reading.{Listens, Steps, stop_of_fault}
 
 -- ---- what was put, one after another
 

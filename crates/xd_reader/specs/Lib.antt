@@ -1,3 +1,3 @@
 pub mod Judged
 pub mod Reads
-pub mod Reading
+pub mod inner

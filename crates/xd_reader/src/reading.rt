@@ -4,7 +4,7 @@ ghost use Rattle.xd_frame.specs.Message.{MessageView};
 ghost use Rattle.xd_link.specs.Spring.{spring};
 ghost use Rattle.xd_post.specs.Post.{put, ring_of_sender};
 ghost use Rattle.xd_reader.specs.Reads.{Puts};
-ghost use Rattle.xd_reader.specs.Reading.{Greets, Listens, Steps, stop_of_fault};
+ghost use Rattle.xd_reader.specs.inner.Reading.{Greets, Listens, Steps, stop_of_fault};
 
 use crate::{LinkNews, LinkStop};
 use std::alloc::Global;

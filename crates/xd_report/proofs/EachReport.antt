@@ -10,18 +10,18 @@ use Rattle.xd_journal.specs.declared.entry.Outcome.TheVariants.{Passed, Skipped,
 use Rattle.xd_journal.specs.declared.entry.Ids.{Ids}
 use Rattle.xd_journal.specs.declared.entry.RunStop.{RunStop}
 use Rattle.xd_journal.specs.declared.settings.Settings.{Settings}
-use Rattle.xd_ledger.specs.Books.{on_table, marked}
-use Rattle.xd_ledger.specs.Collections.{listed, unequal, with_list}
-use Rattle.xd_ledger.specs.Numbers.{first_of}
-use Rattle.xd_ledger.specs.Plan.{base, is_each}
-use Rattle.xd_ledger.specs.Reports.{Report, Result, Crash, reports_of, reports_from}
-use Rattle.xd_ledger.specs.Retry.{is_retry}
-use Rattle.xd_ledger.specs.Sharing.{State, in_books, is_full, shared_now}
-use Rattle.xd_ledger.specs.Collecting.{after_collected, collecting}
-use Rattle.xd_ledger.specs.State.{is_input, after_effect, after_entries, after_entry, reached, settled}
-use Rattle.xd_ledger.specs.Stops.{stopped_by}
-use Rattle.xd_ledger.specs.Table.{crash_item, held, joined}
-use Rattle.xd_ledger.specs.Workers.{is_shut, made_collected, slot_of}
+use Rattle.xd_run.specs.Books.{on_table, marked}
+use Rattle.xd_run.specs.Collections.{listed, unequal, with_list}
+use Rattle.xd_run.specs.Numbers.{first_of}
+use Rattle.xd_run.specs.Plan.{base, is_each}
+use Rattle.xd_run.specs.Reports.{Report, Result, Crash, reports_of, reports_from}
+use Rattle.xd_run.specs.Retry.{is_retry}
+use Rattle.xd_run.specs.Sharing.{State, in_books, is_full, shared_now}
+use Rattle.xd_run.specs.Collecting.{after_collected, collecting}
+use Rattle.xd_run.specs.State.{is_input, after_effect, after_entries, after_entry, reached, settled}
+use Rattle.xd_run.specs.Stops.{stopped_by}
+use Rattle.xd_run.specs.Table.{crash_item, held, joined}
+use Rattle.xd_run.specs.Workers.{is_shut, made_collected, slot_of}
 use Rattle.xd_report.specs.declared.counts.Counts.{Counts}
 use Rattle.xd_report.specs.Blocks.{block, block_of, blocks_from, crash_reason}
 use Rattle.xd_report.specs.EachReport.{Block, Line, Tests, Of, NodeDown, Retried, Replaces, HasBlockEach, HasLineEach, outputs_from, outputs_of, text_of_blocks, text_of_report, reports_told, text_of_line, text_of_lines, is_failure, is_passed, is_skipped}

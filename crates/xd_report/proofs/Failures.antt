@@ -11,19 +11,19 @@ use Rattle.xd_journal.specs.declared.entry.RunStop.{RunStop}
 use Rattle.xd_journal.specs.declared.entry.RunStop.TheVariants.{OutFault}
 use Rattle.xd_journal.specs.declared.journal.Journal.{Journal}
 use Rattle.xd_journal.specs.declared.settings.Settings.{Settings}
-use Rattle.xd_ledger.specs.Books.{on_table, marked}
-use Rattle.xd_ledger.specs.Collecting.{collecting}
-use Rattle.xd_ledger.specs.Collections.{listed, unequal, with_list}
-use Rattle.xd_ledger.specs.Ending.{stop_of}
-use Rattle.xd_ledger.specs.Plan.{base, is_each}
-use Rattle.xd_ledger.specs.Reports.{Report, Result, Crash, reports_of, reports_from, reports}
-use Rattle.xd_ledger.specs.Results.{completed_first, failing}
-use Rattle.xd_ledger.specs.Retry.{is_retry}
-use Rattle.xd_ledger.specs.Sharing.{State, in_books, is_full, shared_now}
-use Rattle.xd_ledger.specs.State.{after_entries, is_input, after_effect, after_entry, no_one, reached, settled, state_at}
-use Rattle.xd_ledger.specs.Stops.{stopped_by}
-use Rattle.xd_ledger.specs.Table.{Table, crash_item, held, joined}
-use Rattle.xd_ledger.specs.Workers.{is_shut, made_collected, slot_of}
+use Rattle.xd_run.specs.Books.{on_table, marked}
+use Rattle.xd_run.specs.Collecting.{collecting}
+use Rattle.xd_run.specs.Collections.{listed, unequal, with_list}
+use Rattle.xd_run.specs.Ending.{stop_of}
+use Rattle.xd_run.specs.Plan.{base, is_each}
+use Rattle.xd_run.specs.Reports.{Report, Result, Crash, reports_of, reports_from, reports}
+use Rattle.xd_run.specs.Results.{completed_first, failing}
+use Rattle.xd_run.specs.Retry.{is_retry}
+use Rattle.xd_run.specs.Sharing.{State, in_books, is_full, shared_now}
+use Rattle.xd_run.specs.State.{after_entries, is_input, after_effect, after_entry, no_one, reached, settled, state_at}
+use Rattle.xd_run.specs.Stops.{stopped_by}
+use Rattle.xd_run.specs.Table.{Table, crash_item, held, joined}
+use Rattle.xd_run.specs.Workers.{is_shut, made_collected, slot_of}
 use Rattle.xd_report.specs.EachReport.{is_failure}
 use Rattle.xd_report.specs.Status.{status_in, status_of, stop_status}
 use Rattle.xd_report.specs.Summary.{counts}

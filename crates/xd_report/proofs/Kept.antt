@@ -1,8 +1,8 @@
 -- What is read of the parts that a reporter keeps is what is read of the state.
 use Rattle.std.proofs.Common.{◌≡◌, ℕ, ◌+◌, ◌==◌, true, false, not, List, [], ◌∷◌, map, take, sum, refl, sym, ◌∙◌, ap, zero-add, if◌then◌else◌}
-use Rattle.xd_ledger.specs.declared.seat.Seat.{Seat}
-use Rattle.xd_ledger.specs.Plan.{Plan, base, is_each, items_named}
-use Rattle.xd_ledger.specs.Table.{at_seat, held_in, without_seat}
+use Rattle.xd_run.specs.declared.seat.Seat.{Seat}
+use Rattle.xd_run.specs.Plan.{Plan, base, is_each, items_named}
+use Rattle.xd_run.specs.Table.{at_seat, held_in, without_seat}
 use Rattle.xd_held.specs.declared.holder.Holder.{Holder}
 use Rattle.xd_held.specs.Holders.{seat_of_holder}
 use Rattle.xd_report.specs.Follows.{bare_seat}

@@ -8,14 +8,14 @@ use Rattle.xd_journal.specs.declared.entry.Entry.TheVariants.{Run}
 use Rattle.xd_journal.specs.declared.entry.Ids.TheVariants.{List as Listed}
 use Rattle.xd_journal.specs.declared.settings.Settings.{Settings}
 use Rattle.xd_journal.specs.Local.{TestResult, round, rounds, local_entries}
-use Rattle.xd_ledger.specs.Books.{marked, on_table}
-use Rattle.xd_ledger.specs.Collections.{with_list}
-use Rattle.xd_ledger.specs.Sharing.{State, ids_at, in_books, is_full, shared_now}
-use Rattle.xd_ledger.specs.Table.{joined}
-use Rattle.xd_ledger.specs.Plan.{is_each}
-use Rattle.xd_ledger.specs.Workers.{made_collected, slot_of}
-use Rattle.xd_ledger.specs.Collecting.{after_collected}
-use Rattle.xd_ledger.specs.State.{after_entries, after_entry, no_one, settled}
+use Rattle.xd_run.specs.Books.{marked, on_table}
+use Rattle.xd_run.specs.Collections.{with_list}
+use Rattle.xd_run.specs.Sharing.{State, ids_at, in_books, is_full, shared_now}
+use Rattle.xd_run.specs.Table.{joined}
+use Rattle.xd_run.specs.Plan.{is_each}
+use Rattle.xd_run.specs.Workers.{made_collected, slot_of}
+use Rattle.xd_run.specs.Collecting.{after_collected}
+use Rattle.xd_run.specs.State.{after_entries, after_entry, no_one, settled}
 use Rattle.xd_report.specs.Lines.{collected_line, lines_from, result_line, run_lines, tests_line}
 use Rattle.xd_report.specs.LocalLines.{test_lines}
 use Rattle.xd_report.specs.Tests.{id_of, mode_of}

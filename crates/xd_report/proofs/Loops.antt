@@ -1,7 +1,7 @@
 -- Loops that change one item of a list after another.
 use Rattle.std.proofs.Common.{◌≡◌, ℕ, zero, suc, ◌+◌, List, [], ◌∷◌, ◌++◌, length, sym, ◌∙◌, ap, arith, add-one, add-zero}
-use Rattle.xd_ledger.specs.declared.member.Listed.{Listed}
-use Rattle.xd_ledger.specs.Sharing.{ids_at, sizes_from}
+use Rattle.xd_run.specs.declared.member.Listed.{Listed}
+use Rattle.xd_run.specs.Sharing.{ids_at, sizes_from}
 
 -- one slot more
 pub sizes-more : (ls : List Listed) (slot n : ℕ) → sizes_from ls slot (n + 1) ≡ sizes_from ls slot n ++ length (ids_at (slot + n) ls) ∷ []

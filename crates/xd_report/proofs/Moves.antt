@@ -2,11 +2,11 @@
 use Rattle.std.proofs.Common.{◌≡◌, ℕ, true, false, Option, Some, None, is_some, refl, if◌then◌else◌}
 use Rattle.xd_journal.specs.declared.entry.Entry.{Entry}
 use Rattle.xd_journal.specs.declared.entry.RunStop.{RunStop}
-use Rattle.xd_ledger.specs.Sharing.{State, in_books, joining}
-use Rattle.xd_ledger.specs.Collecting.{collecting}
-use Rattle.xd_ledger.specs.State.{is_input, reached, settled}
-use Rattle.xd_ledger.specs.Stops.{stopped_by}
-use Rattle.xd_ledger.specs.Workers.{is_shut}
+use Rattle.xd_run.specs.Sharing.{State, in_books, joining}
+use Rattle.xd_run.specs.Collecting.{collecting}
+use Rattle.xd_run.specs.State.{is_input, reached, settled}
+use Rattle.xd_run.specs.Stops.{stopped_by}
+use Rattle.xd_run.specs.Workers.{is_shut}
 use Rattle.xd_report.specs.declared.reporter.Reporter.{Reporter}
 use Rattle.xd_report.specs.Follows.{Follows}
 

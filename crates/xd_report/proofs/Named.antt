@@ -9,19 +9,19 @@ use Rattle.xd_journal.specs.declared.entry.Outcome.{Outcome}
 use Rattle.xd_journal.specs.declared.entry.Outcome.TheVariants.{Passed, Skipped, Failed}
 use Rattle.xd_journal.specs.declared.entry.RunStop.{RunStop}
 use Rattle.xd_journal.specs.declared.settings.Settings.{Settings}
-use Rattle.xd_ledger.specs.declared.member.Listed.{Listed}
-use Rattle.xd_ledger.specs.Books.{marked, on_table}
-use Rattle.xd_ledger.specs.Collections.{ids_of, key, listed, listed_in, lists_with, unequal, with_list}
-use Rattle.xd_ledger.specs.Numbers.{first_of}
-use Rattle.xd_ledger.specs.Plan.{Plan, base, is_each, items_named}
-use Rattle.xd_ledger.specs.Reports.{Report, Result, Crash, reports, reports_from, reports_of}
-use Rattle.xd_ledger.specs.Retry.{is_retry}
-use Rattle.xd_ledger.specs.Sharing.{State, ids_at, in_books, is_full, shared_now}
-use Rattle.xd_ledger.specs.Collecting.{after_collected, collecting}
-use Rattle.xd_ledger.specs.State.{after_entries, is_input, after_effect, after_entry, no_one, reached, settled}
-use Rattle.xd_ledger.specs.Stops.{stopped_by}
-use Rattle.xd_ledger.specs.Table.{crash_item, held, joined, retried_item}
-use Rattle.xd_ledger.specs.Workers.{is_shut, made_collected, slot_of}
+use Rattle.xd_run.specs.declared.member.Listed.{Listed}
+use Rattle.xd_run.specs.Books.{marked, on_table}
+use Rattle.xd_run.specs.Collections.{ids_of, key, listed, listed_in, lists_with, unequal, with_list}
+use Rattle.xd_run.specs.Numbers.{first_of}
+use Rattle.xd_run.specs.Plan.{Plan, base, is_each, items_named}
+use Rattle.xd_run.specs.Reports.{Report, Result, Crash, reports, reports_from, reports_of}
+use Rattle.xd_run.specs.Retry.{is_retry}
+use Rattle.xd_run.specs.Sharing.{State, ids_at, in_books, is_full, shared_now}
+use Rattle.xd_run.specs.Collecting.{after_collected, collecting}
+use Rattle.xd_run.specs.State.{after_entries, is_input, after_effect, after_entry, no_one, reached, settled}
+use Rattle.xd_run.specs.Stops.{stopped_by}
+use Rattle.xd_run.specs.Table.{crash_item, held, joined, retried_item}
+use Rattle.xd_run.specs.Workers.{is_shut, made_collected, slot_of}
 use Rattle.xd_report.specs.Blocks.{block, block_of, blocks_from, crash_reason}
 use Rattle.xd_report.specs.EachReport.{Block, Line, Tests, Of, NodeDown, Retried, Replaces, HasNamedBlockEach, HasNamedLineEach, Names, NamesBlocks, id_in, is_failure, kept_outputs, outputs_from, outputs_of, reports_told, retried, retried_from, retried_of, text_of_line, text_of_report}
 use Rattle.xd_report.specs.Lines.{collected_line, last_of_slot, lines_from, lines_of, lost_line, replacing, run_lines}

@@ -12,10 +12,10 @@ use Rattle.xd_journal.specs.declared.entry.Entry.TheVariants.{Ready, Collected, 
 use Rattle.std.specs.Fmt.{digits}
 use lib.Utf8.{encode}
 use Rattle.xd_report.specs.Blocks.{reason_of, output_text, crash_reason, heading_line}
-use Rattle.xd_phrases.specs.Names.{line, name, plain, tag}
+use Rattle.xd_report_phrases.specs.Names.{line, name, plain, tag}
 use Rattle.xd_report.specs.Lines.{tests_line}
 use Rattle.xd_report.specs.Status.{run_status}
-use Rattle.xd_phrases.specs.StopLine.{limit_line, disabled_line, most_line, place_text, refusal_text}
+use Rattle.xd_report_phrases.specs.StopLine.{limit_line, disabled_line, most_line, place_text, refusal_text}
 use Rattle.xd_report.specs.Text.{run_text}
 
 abbrev ten_ids : List (List ℕ)

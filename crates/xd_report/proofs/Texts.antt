@@ -8,13 +8,13 @@ use Rattle.xd_journal.specs.declared.entry.RunStop.{RunStop}
 use Rattle.xd_journal.specs.declared.entry.RunStop.TheVariants.{Completed, MaxFail, Restarts, Unequal, CollectError, OutFault}
 use Rattle.xd_journal.specs.declared.entry.Entry.TheVariants.{Ready, Collected, Done, Back, Finished, Refused, Down, NotStarted, Start, Run, RunAll, Steal, Shutdown, Kill, Over}
 use Rattle.xd_journal.specs.declared.entry.Ids.{Ids}
-use Rattle.xd_ledger.specs.Sharing.{State}
-use Rattle.xd_ledger.specs.Collecting.{after_collected}
-use Rattle.xd_ledger.specs.State.{after_entries, after_entry, no_one, reached, settled, state_at}
+use Rattle.xd_run.specs.Sharing.{State}
+use Rattle.xd_run.specs.Collecting.{after_collected}
+use Rattle.xd_run.specs.State.{after_entries, after_entry, no_one, reached, settled, state_at}
 use Rattle.xd_report.specs.declared.counts.Counts.{Counts}
 use Rattle.xd_report.specs.Blocks.{block_of, blocks_from}
 use Rattle.xd_report.specs.Lines.{collected_line, lines_from, lines_of, run_lines, lines_told}
-use Rattle.xd_phrases.specs.StopLine.{line_of_stop, refusal, refused_line}
+use Rattle.xd_report_phrases.specs.StopLine.{line_of_stop, refusal, refused_line}
 use Rattle.xd_report.specs.Summary.{counted, counted_from, counts, summary_text}
 use Rattle.xd_report.specs.Text.{run_text}
 

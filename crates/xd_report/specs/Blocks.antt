@@ -8,9 +8,9 @@ use Rattle.xd_journal.specs.declared.entry.Entry.{Entry}
 use Rattle.xd_journal.specs.declared.entry.Entry.TheVariants.{Done, Down}
 use Rattle.xd_journal.specs.declared.entry.Outcome.TheVariants.{Failed}
 use Rattle.xd_journal.specs.declared.journal.Journal.{Journal}
-use Rattle.xd_ledger.specs.Sharing.{State}
-use Rattle.xd_ledger.specs.State.{reached, after_entry, after_entries, no_one}
-use Rattle.xd_phrases.specs.Names.{name, tag, plain}
+use Rattle.xd_run.specs.Sharing.{State}
+use Rattle.xd_run.specs.State.{reached, after_entry, after_entries, no_one}
+use Rattle.xd_report_phrases.specs.Names.{name, tag, plain}
 use Rattle.xd_report.specs.Tests.{mode_of, id_of, crash_of, item_id}
 
 -- why a test failed

@@ -4,7 +4,7 @@ use Rattle.xd_edge.specs.Printing.{BreaksOff}
 use Rattle.xd_edge.specs.Sink.{Sunk, Printed}
 use Rattle.xd_journal.specs.declared.entry.Entry.{Entry}
 use Rattle.xd_journal.specs.declared.settings.Settings.{Settings}
-use Rattle.xd_ledger.specs.State.{after_entries, no_one}
+use Rattle.xd_run.specs.State.{after_entries, no_one}
 use Rattle.xd_report.specs.Lines.{lines_from, run_lines}
 use Rattle.xd_report.specs.Text.{run_tail, run_text}
 

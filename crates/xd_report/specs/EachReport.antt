@@ -8,15 +8,15 @@ use Rattle.xd_journal.specs.declared.entry.Entry.TheVariants.{Done, Down}
 use Rattle.xd_journal.specs.declared.entry.Outcome.TheVariants.{Passed, Skipped, Failed}
 use Rattle.xd_journal.specs.declared.settings.Settings.{Settings}
 use Rattle.xd_journal.specs.declared.journal.Journal.{Journal}
-use Rattle.xd_ledger.specs.Reports.{Report, Result, Crash, collected_ids, item_of, reports_in}
-use Rattle.xd_ledger.specs.Retry.{is_retry}
-use Rattle.xd_ledger.specs.Sharing.{State}
-use Rattle.xd_ledger.specs.State.{after_entry, no_one, reached}
-use Rattle.xd_ledger.specs.Table.{crash_item, held, retried_item}
+use Rattle.xd_run.specs.Reports.{Report, Result, Crash, collected_ids, item_of, reports_in}
+use Rattle.xd_run.specs.Retry.{is_retry}
+use Rattle.xd_run.specs.Sharing.{State}
+use Rattle.xd_run.specs.State.{after_entry, no_one, reached}
+use Rattle.xd_run.specs.Table.{crash_item, held, retried_item}
 use Rattle.xd_report.specs.declared.counts.Counts.{Counts}
 use Rattle.xd_report.specs.Blocks.{block, blocks_from, crash_reason, reason_of}
 use Rattle.xd_report.specs.Lines.{tests_line, result_line, lost_line, down_line, replacing, run_lines}
-use Rattle.xd_phrases.specs.Names.{cause_text}
+use Rattle.xd_report_phrases.specs.Names.{cause_text}
 
 -- what a line tells: how many tests there are on how many workers, how a test went, that a worker went down and of which
 -- cause (none where it was not started), which test it went down at that is tried again, or whom a new worker replaces

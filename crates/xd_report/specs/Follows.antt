@@ -1,9 +1,9 @@
 -- What a reporter keeps of the state of a run.
 use Rattle.std.specs.Prelude.{◌≡◌, false, [], map}
-use Rattle.xd_ledger.specs.declared.seat.Seat.{Seat}
-use Rattle.xd_ledger.specs.Books.{Books}
-use Rattle.xd_ledger.specs.Sharing.{State}
-use Rattle.xd_ledger.specs.Table.{fresh_table}
+use Rattle.xd_run.specs.declared.seat.Seat.{Seat}
+use Rattle.xd_run.specs.Books.{Books}
+use Rattle.xd_run.specs.Sharing.{State}
+use Rattle.xd_run.specs.Table.{fresh_table}
 use Rattle.xd_held.specs.Holders.{seat_of_holder}
 use Rattle.xd_report.specs.declared.reporter.Reporter.{Reporter}
 

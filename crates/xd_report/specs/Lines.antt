@@ -9,12 +9,12 @@ use Rattle.xd_journal.specs.declared.entry.Entry.TheVariants.{Collected, Done, D
 use Rattle.xd_journal.specs.declared.entry.Outcome.{Outcome}
 use Rattle.xd_journal.specs.declared.journal.Journal.{Journal}
 use Rattle.xd_journal.specs.Local.{is_local_mode}
-use Rattle.xd_ledger.specs.declared.member.Member.{Member}
-use Rattle.xd_ledger.specs.Retry.{is_retry}
-use Rattle.xd_ledger.specs.Sharing.{State}
-use Rattle.xd_ledger.specs.Collecting.{after_collected}
-use Rattle.xd_ledger.specs.State.{reached, after_entry, after_entries, no_one}
-use Rattle.xd_phrases.specs.Names.{name, tag, plain, outcome_text, lost_text, mode_text, cause_text}
+use Rattle.xd_run.specs.declared.member.Member.{Member}
+use Rattle.xd_run.specs.Retry.{is_retry}
+use Rattle.xd_run.specs.Sharing.{State}
+use Rattle.xd_run.specs.Collecting.{after_collected}
+use Rattle.xd_run.specs.State.{reached, after_entry, after_entries, no_one}
+use Rattle.xd_report_phrases.specs.Names.{name, tag, plain, outcome_text, lost_text, mode_text, cause_text}
 use Rattle.xd_report.specs.Tests.{mode_of, id_of, head, item_id, tests}
 
 -- how many tests there are, and on whom they run

@@ -8,9 +8,9 @@ use Rattle.xd_journal.specs.declared.entry.Entry.{Entry}
 use Rattle.xd_journal.specs.declared.settings.Settings.{Settings}
 use Rattle.xd_journal.specs.declared.journal.Journal.{Journal}
 use Rattle.xd_journal.specs.Local.{is_local_mode}
-use Rattle.xd_ledger.specs.Sharing.{State}
-use Rattle.xd_ledger.specs.State.{state_at}
-use Rattle.xd_ledger.specs.Ending.{stop_in}
+use Rattle.xd_run.specs.Sharing.{State}
+use Rattle.xd_run.specs.State.{state_at}
+use Rattle.xd_run.specs.Ending.{stop_in}
 use Rattle.xd_report.specs.Summary.{counts}
 use Rattle.xd_report.specs.Tests.{mode_of, tests}
 

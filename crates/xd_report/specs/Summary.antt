@@ -5,8 +5,8 @@ use Rattle.xd_journal.specs.declared.settings.Settings.{Settings}
 use Rattle.xd_journal.specs.declared.entry.Entry.{Entry}
 use Rattle.xd_journal.specs.declared.entry.Entry.TheVariants.{Done}
 use Rattle.xd_journal.specs.declared.entry.Outcome.TheVariants.{Passed, Skipped}
-use Rattle.xd_ledger.specs.Sharing.{State}
-use Rattle.xd_ledger.specs.State.{reached, after_entry, no_one}
+use Rattle.xd_run.specs.Sharing.{State}
+use Rattle.xd_run.specs.State.{reached, after_entry, no_one}
 use Rattle.xd_report.specs.declared.counts.Counts.{Counts}
 use Rattle.xd_report.specs.Blocks.{is_failed_report}
 

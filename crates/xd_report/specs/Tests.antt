@@ -2,13 +2,13 @@
 use Rattle.std.specs.Prelude.{ℕ, ◌-◌, List, [], length, slice_index_or, Option, if◌then◌else◌}
 use Rattle.xd_edge.specs.declared.mode.ModeKind.{ModeKind}
 use Rattle.xd_journal.specs.Local.{is_local_mode}
-use Rattle.xd_ledger.specs.Collections.{key}
-use Rattle.xd_ledger.specs.Numbers.{first_of}
-use Rattle.xd_ledger.specs.Plan.{base, total}
-use Rattle.xd_ledger.specs.Retry.{is_retry}
-use Rattle.xd_ledger.specs.Sharing.{State, ids_at}
-use Rattle.xd_ledger.specs.Table.{crash_item, held}
-use Rattle.xd_ledger.specs.Workers.{slot_of}
+use Rattle.xd_run.specs.Collections.{key}
+use Rattle.xd_run.specs.Numbers.{first_of}
+use Rattle.xd_run.specs.Plan.{base, total}
+use Rattle.xd_run.specs.Retry.{is_retry}
+use Rattle.xd_run.specs.Sharing.{State, ids_at}
+use Rattle.xd_run.specs.Table.{crash_item, held}
+use Rattle.xd_run.specs.Workers.{slot_of}
 
 -- the mode of the run
 abbrev pub mode_of : State → ModeKind

@@ -3,10 +3,10 @@ use Rattle.std.specs.Prelude.{ℕ, List, [], ◌∷◌, ◌++◌}
 use Rattle.xd_journal.specs.declared.entry.Entry.{Entry}
 use Rattle.xd_journal.specs.declared.journal.Journal.{Journal}
 use Rattle.xd_journal.specs.declared.settings.Settings.{Settings}
-use Rattle.xd_ledger.specs.State.{no_one, state_at}
+use Rattle.xd_run.specs.State.{no_one, state_at}
 use Rattle.xd_report.specs.Blocks.{blocks_from}
 use Rattle.xd_report.specs.Lines.{run_lines}
-use Rattle.xd_phrases.specs.StopLine.{line_of_stop}
+use Rattle.xd_report_phrases.specs.StopLine.{line_of_stop}
 use Rattle.xd_report.specs.Summary.{counts, summary_text}
 
 -- the blocks of the failed reports in journal order, the line of the stop that the entries decide, which a failing

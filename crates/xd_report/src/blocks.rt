@@ -1,6 +1,6 @@
 // The blocks of what failed.
 ghost use Rattle.std.specs.Prelude.{◌≡◌, ◌<◌, ◌++◌, length, IfOk, OnOk, true, ◌∷◌, []};
-ghost use Rattle.xd_ledger.specs.Sharing.{State};
+ghost use Rattle.xd_run.specs.Sharing.{State};
 ghost use Rattle.std.specs.List.{HoldsAt};
 ghost use Rattle.std.specs.Str.{chars};
 ghost use Rattle.xd_report.specs.Blocks.{block, block_of, count_line, crash_block, crash_reason, heading_line, state_before, is_failed_report, line_end, output_text, reason_of, IsBlockAt, IsFailedAt};
@@ -10,7 +10,7 @@ use crate::reporter::Reporter;
 use std::alloc::Global;
 use xd_edge::{Blob, ModeKind, OutOfMemory};
 use xd_journal::{Entry, Journal, Outcome};
-use xd_phrases::{add, add_name, add_number, add_plain, add_tag, add_text};
+use xd_report_phrases::{add, add_name, add_number, add_plain, add_tag, add_text};
 
 /// The block of the entry at a place, which is a failed report: its heading, the reason, and the kept output.
 pub fn failure_block(alloc: Global, journal: &Journal, at: usize) -> Result<Blob, OutOfMemory>

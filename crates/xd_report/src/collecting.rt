@@ -1,12 +1,12 @@
 // Collections, and the share.
 ghost use Rattle.std.specs.Prelude.{◌≡◌, List, IfOk, OnOk};
-ghost use Rattle.xd_ledger.specs.Books.{marked, on_table};
-ghost use Rattle.xd_ledger.specs.Collections.{ids_of, unequal, listed, with_list};
-ghost use Rattle.xd_ledger.specs.Plan.{is_each};
-ghost use Rattle.xd_ledger.specs.Sharing.{State, joining, planned, share_where_full, sizes_from, in_books};
-ghost use Rattle.xd_ledger.specs.Collecting.{after_collected};
-ghost use Rattle.xd_ledger.specs.Table.{joined};
-ghost use Rattle.xd_ledger.specs.Workers.{made_collected};
+ghost use Rattle.xd_run.specs.Books.{marked, on_table};
+ghost use Rattle.xd_run.specs.Collections.{ids_of, unequal, listed, with_list};
+ghost use Rattle.xd_run.specs.Plan.{is_each};
+ghost use Rattle.xd_run.specs.Sharing.{State, joining, planned, share_where_full, sizes_from, in_books};
+ghost use Rattle.xd_run.specs.Collecting.{after_collected};
+ghost use Rattle.xd_run.specs.Table.{joined};
+ghost use Rattle.xd_run.specs.Workers.{made_collected};
 ghost use Rattle.xd_report.specs.Follows.{Follows};
 
 use crate::reporter::Reporter;
@@ -14,7 +14,7 @@ use std::alloc::Global;
 use xd_books::{Books, differ_at, is_each};
 use xd_edge::{OutOfMemory, Text};
 use xd_journal::{Ids, RunStop};
-use xd_ledger::Mark;
+use xd_run::Mark;
 
 // The ids that a collection lists.
 fn ids_of(given: &Ids) -> &[Text]

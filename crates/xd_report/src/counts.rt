@@ -1,7 +1,7 @@
 // How many reports there are of each kind.
 ghost use Rattle.std.specs.Prelude.{◌≡◌, OnOk};
-ghost use Rattle.xd_ledger.specs.Sharing.{State};
-ghost use Rattle.xd_ledger.specs.State.{after_entries};
+ghost use Rattle.xd_run.specs.Sharing.{State};
+ghost use Rattle.xd_run.specs.State.{after_entries};
 ghost use Rattle.xd_report.specs.Follows.{Follows};
 ghost use Rattle.xd_report.specs.Summary.{counted, counted_from};
 

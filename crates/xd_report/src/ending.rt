@@ -1,7 +1,7 @@
 // What is printed after the lines of the entries.
 ghost use Rattle.std.specs.Prelude.{◌≡◌, ◌++◌, IfOk, OnOk};
-ghost use Rattle.xd_ledger.specs.Sharing.{State};
-ghost use Rattle.xd_ledger.specs.State.{after_entries};
+ghost use Rattle.xd_run.specs.Sharing.{State};
+ghost use Rattle.xd_run.specs.State.{after_entries};
 ghost use Rattle.xd_report.specs.Blocks.{blocks_from};
 ghost use Rattle.xd_report.specs.Follows.{Follows};
 ghost use Rattle.xd_report.specs.Text.{tail_text};
@@ -11,7 +11,7 @@ use crate::summary::{counts_of, summary};
 use std::alloc::Global;
 use xd_edge::{Blob, OutOfMemory};
 use xd_journal::{Entry, Journal};
-use xd_phrases::{add, add_line_of_stop};
+use xd_report_phrases::{add, add_line_of_stop};
 
 /// The blocks of the failed reports, the line of the stop where the run stopped, and the summary.
 pub fn tail(alloc: Global, journal: &Journal) -> Result<Blob, OutOfMemory>

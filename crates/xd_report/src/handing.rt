@@ -1,17 +1,17 @@
 // What is told to workers.
 ghost use Rattle.std.specs.Prelude.{OnOk};
 ghost use Rattle.xd_journal.specs.declared.entry.Entry.TheVariants.{Ready, Start, Shutdown};
-ghost use Rattle.xd_ledger.specs.Plan.{base};
-ghost use Rattle.xd_ledger.specs.Sharing.{State};
-ghost use Rattle.xd_ledger.specs.Handing.{after_back, after_run, after_run_all};
-ghost use Rattle.xd_ledger.specs.State.{after_effect};
+ghost use Rattle.xd_run.specs.Plan.{base};
+ghost use Rattle.xd_run.specs.Sharing.{State};
+ghost use Rattle.xd_run.specs.Handing.{after_back, after_run, after_run_all};
+ghost use Rattle.xd_run.specs.State.{after_effect};
 ghost use Rattle.xd_report.specs.Follows.{Follows};
 
 use crate::reporter::Reporter;
 use std::alloc::Global;
 use xd_edge::OutOfMemory;
 use xd_held::numbers_from;
-use xd_ledger::Mark;
+use xd_run::Mark;
 
 impl Reporter {
     // A worker was started.

@@ -2,22 +2,22 @@
 ghost use Rattle.std.specs.Prelude.{◌≡◌, ◌≤◌, ◌++◌, length, None, IfOk, OnOk};
 ghost use Rattle.std.specs.Str.{chars};
 ghost use Rattle.xd_journal.specs.Local.{is_local_mode};
-ghost use Rattle.xd_ledger.specs.Sharing.{State};
-ghost use Rattle.xd_ledger.specs.State.{after_entries, reached, after_entry};
+ghost use Rattle.xd_run.specs.Sharing.{State};
+ghost use Rattle.xd_run.specs.State.{after_entries, reached, after_entry};
 ghost use Rattle.xd_report.specs.Follows.{Follows};
 ghost use Rattle.xd_report.specs.Lines.{collected_line, down_line, last_of_slot, lines_between, lines_from, lines_of, lost_head_line, lost_line, replacing, result_line, tests_line, lines_told};
-ghost use Rattle.xd_phrases.specs.Names.{cause_text};
+ghost use Rattle.xd_report_phrases.specs.Names.{cause_text};
 ghost use Rattle.xd_report.specs.Tests.{id_of, mode_of};
 
 use crate::reporter::Reporter;
 use std::alloc::Global;
 use xd_edge::{Blob, ModeKind, OutOfMemory};
 use xd_journal::{Cause, Entry, Journal, Outcome};
-use xd_ledger::Member;
-use xd_phrases::{
+use xd_report_phrases::{
     add, add_name, add_number, add_plain, add_tag, add_text, cause_text, lost_text, mode_text,
     outcome_text,
 };
+use xd_run::Member;
 
 /// The lines of the entries from one place up to another, each ended by a newline. It goes over the entries before them
 /// too; whoever prints a journal while it grows keeps a `Reporter`.

@@ -3,8 +3,8 @@ ghost use Rattle.std.specs.Prelude.{◌≡◌, ◌≤◌, [], true, IfOk, OnOk, 
 ghost use Rattle.xd_edge.specs.Faults.{Counted};
 ghost use Rattle.xd_edge.specs.Printing.{ShowsSome};
 ghost use Rattle.xd_edge.specs.Sink.{TookPart};
-ghost use Rattle.xd_ledger.specs.Sharing.{State};
-ghost use Rattle.xd_ledger.specs.State.{after_entries};
+ghost use Rattle.xd_run.specs.Sharing.{State};
+ghost use Rattle.xd_run.specs.State.{after_entries};
 ghost use Rattle.xd_report.specs.declared.printing.PrintFault.TheVariants.{Failed as NotPrinted, OutOfMemory as NoMemory};
 ghost use Rattle.xd_report.specs.Follows.{Follows};
 ghost use Rattle.xd_report.specs.Lines.{lines_from};

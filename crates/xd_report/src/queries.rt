@@ -1,11 +1,11 @@
 // What a reporter tells of the run.
 ghost use Rattle.std.specs.Prelude.{◌≡◌, [], IfOk, Some, slice_index, slice_index_or};
 ghost use Rattle.std.specs.Str.{chars};
-ghost use Rattle.xd_ledger.specs.Collections.{key};
-ghost use Rattle.xd_ledger.specs.Plan.{base, items_named};
-ghost use Rattle.xd_ledger.specs.Retry.{is_retry};
-ghost use Rattle.xd_ledger.specs.Sharing.{State, ids_at};
-ghost use Rattle.xd_ledger.specs.Workers.{is_shut, slot_of};
+ghost use Rattle.xd_run.specs.Collections.{key};
+ghost use Rattle.xd_run.specs.Plan.{base, items_named};
+ghost use Rattle.xd_run.specs.Retry.{is_retry};
+ghost use Rattle.xd_run.specs.Sharing.{State, ids_at};
+ghost use Rattle.xd_run.specs.Workers.{is_shut, slot_of};
 ghost use Rattle.xd_report.specs.Follows.{Follows};
 ghost use Rattle.xd_report.specs.Tests.{crash_of, head, id_of, item_id, mode_of, tests};
 

@@ -1,7 +1,7 @@
 // What reports need of the state of a run.
 ghost use Rattle.std.specs.Prelude.{◌≡◌, OnOk};
-ghost use Rattle.xd_ledger.specs.Sharing.{State};
-ghost use Rattle.xd_ledger.specs.State.{after_entry, no_one};
+ghost use Rattle.xd_run.specs.Sharing.{State};
+ghost use Rattle.xd_run.specs.State.{after_entry, no_one};
 ghost use Rattle.xd_report.specs.Follows.{Follows};
 
 use std::alloc::Global;

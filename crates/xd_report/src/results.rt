@@ -1,14 +1,14 @@
 // Results, deaths and stops.
 ghost use Rattle.std.specs.Prelude.{ℕ, List, [], ◌∷◌, OnOk, Some};
 ghost use Rattle.xd_journal.specs.declared.entry.Entry.TheVariants.{Done, Finished, Refused};
-ghost use Rattle.xd_ledger.specs.Books.{on_table};
-ghost use Rattle.xd_ledger.specs.Plan.{base, items_named};
-ghost use Rattle.xd_ledger.specs.Sharing.{State, in_books};
-ghost use Rattle.xd_ledger.specs.Deaths.{after_down};
-ghost use Rattle.xd_ledger.specs.Results.{completed_first};
-ghost use Rattle.xd_ledger.specs.State.{after_effect};
-ghost use Rattle.xd_ledger.specs.Stops.{stopped_by};
-ghost use Rattle.xd_ledger.specs.Workers.{slot_of};
+ghost use Rattle.xd_run.specs.Books.{on_table};
+ghost use Rattle.xd_run.specs.Plan.{base, items_named};
+ghost use Rattle.xd_run.specs.Sharing.{State, in_books};
+ghost use Rattle.xd_run.specs.Deaths.{after_down};
+ghost use Rattle.xd_run.specs.Results.{completed_first};
+ghost use Rattle.xd_run.specs.State.{after_effect};
+ghost use Rattle.xd_run.specs.Stops.{stopped_by};
+ghost use Rattle.xd_run.specs.Workers.{slot_of};
 ghost use Rattle.xd_report.specs.Follows.{Follows};
 ghost use Rattle.xd_report.specs.Tests.{head};
 
@@ -17,7 +17,7 @@ use std::alloc::Global;
 use xd_edge::OutOfMemory;
 use xd_held::plus;
 use xd_journal::{Outcome, RunStop};
-use xd_ledger::Mark;
+use xd_run::Mark;
 
 impl Reporter {
     // The first stop counts.

@@ -2,7 +2,7 @@
 ghost use Rattle.std.specs.Prelude.{◌≡◌, ◌==◌, if◌then◌else◌};
 ghost use Rattle.xd_journal.specs.declared.entry.RunStop.TheVariants as run_stop;
 ghost use Rattle.xd_journal.specs.Local.{is_local_mode};
-ghost use Rattle.xd_ledger.specs.Sharing.{State};
+ghost use Rattle.xd_run.specs.Sharing.{State};
 ghost use Rattle.xd_report.specs.Follows.{Follows};
 ghost use Rattle.xd_report.specs.Status.{completed_status, status_in};
 ghost use Rattle.xd_report.specs.Tests.{tests};

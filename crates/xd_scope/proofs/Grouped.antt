@@ -12,8 +12,8 @@ use Rattle.std.proofs.lemmas.List.{length-map, length-take-le, map-append, take_
 use Rattle.std.proofs.lemmas.Str.{encodes-chars}
 use denote.Ref.{Bor}
 use Rattle.xd_edge.specs.declared.mode.ModeKind.{ModeKind}
-use Rattle.xd_ledger.specs.Scopes.{scope_of}
-use Rattle.xd_ledger.specs.Units.{Group, added, grouped}
+use Rattle.xd_run.specs.Scopes.{scope_of}
+use Rattle.xd_run.specs.Units.{Group, added, grouped}
 use Rattle.xd_scope.specs.Stands.{AreGrouped, place_of_scope}
 
 -- texts are the same where their characters are

@@ -5,11 +5,11 @@ use Rattle.std.proofs.lemmas.Bool.Decides.{nat_tests}
 use Rattle.xd_journal.specs.declared.entry.Entry.{Entry}
 use Rattle.xd_journal.specs.declared.entry.Entry.TheVariants.{Run}
 use Rattle.xd_ledger.specs.Calls.{turn}
-use Rattle.xd_ledger.specs.Plan.{Handed, Plan, is_scope}
-use Rattle.xd_ledger.specs.ScopeModes.{give_unit}
-use Rattle.xd_ledger.specs.Table.{Table, assigned}
-use Rattle.xd_ledger.specs.Turn.{Turn}
-use Rattle.xd_ledger.proofs.Handing.{give_unit-front}
+use Rattle.xd_run.specs.Plan.{Handed, Plan, is_scope}
+use Rattle.xd_run.specs.ScopeModes.{give_unit}
+use Rattle.xd_run.specs.Table.{Table, assigned}
+use Rattle.xd_run.specs.Turn.{Turn}
+use Rattle.xd_run.proofs.Handing.{give_unit-front}
 use Rattle.xd_scope.specs.declared.units.Units.{Units}
 use Rattle.xd_scope.specs.Stands.{IsAt, Keeps, given_to, units_of}
 

@@ -7,14 +7,14 @@ use Rattle.xd_journal.specs.declared.entry.Entry.{Entry}
 use Rattle.xd_edge.specs.declared.mode.ModeKind.{ModeKind}
 use Rattle.xd_edge.specs.declared.mode.ModeKind.TheVariants.{Local, Each, Load, LoadScope, LoadFile, LoadGroup, WorkSteal}
 use Rattle.xd_ledger.specs.Calls.{Turned, death_plan, last_of, turn}
-use Rattle.xd_ledger.specs.Modes.{ModeCall, scope_turn, turned}
-use Rattle.xd_ledger.specs.Plan.{Plan, is_scope}
-use Rattle.xd_ledger.specs.Sharing.{shared_plan}
-use Rattle.xd_ledger.specs.Deaths.{down_plan}
-use Rattle.xd_ledger.specs.Suits.{AreInPool}
-use Rattle.xd_ledger.specs.Table.{Table, retried_item}
-use Rattle.xd_ledger.specs.Turn.{Turn}
-use Rattle.xd_ledger.specs.Units.{unless_empty, units, units_left}
+use Rattle.xd_run.specs.Modes.{ModeCall, scope_turn, turned}
+use Rattle.xd_run.specs.Plan.{Plan, is_scope}
+use Rattle.xd_run.specs.Sharing.{shared_plan}
+use Rattle.xd_run.specs.Deaths.{down_plan}
+use Rattle.xd_run.specs.Suits.{AreInPool}
+use Rattle.xd_run.specs.Table.{Table, retried_item}
+use Rattle.xd_run.specs.Turn.{Turn}
+use Rattle.xd_run.specs.Units.{unless_empty, units, units_left}
 use Rattle.xd_scope.specs.declared.units.Units.{Units}
 use Rattle.xd_scope.specs.Stands.{IsAt, Keeps, given_to, left_of_each}
 use Rattle.xd_scope.proofs.Amounts.{few-units}

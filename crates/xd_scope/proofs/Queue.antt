@@ -1,8 +1,8 @@
 -- The first unit of a queue that is in the pool, and the rest of it.
 use Rattle.std.proofs.Common.{◌≡◌, ℕ, List, [], ◌∷◌, true, false, not, refl, subst, arith}
 use Rattle.std.proofs.lemmas.Bool.Decides.{nat_tests}
-use Rattle.xd_ledger.specs.Numbers.{among, without, all_among, all_distinct}
-use Rattle.xd_ledger.specs.Suits.{AreInPool, tests_of_units}
+use Rattle.xd_run.specs.Numbers.{among, without, all_among, all_distinct}
+use Rattle.xd_run.specs.Suits.{AreInPool, tests_of_units}
 use Rattle.xd_ledger.proofs.Lists.{among-filter, apart, distinct-back, distinct-front, within-back, within-front}
 
 pub left-within : (c a ys : List ℕ) → all_among c ys ≡ true → ((x : ℕ) → among x c ≡ true → among x a ≡ false) → all_among c (without a ys) ≡ true

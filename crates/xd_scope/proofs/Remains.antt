@@ -8,10 +8,10 @@ use Rattle.std.proofs.lemmas.Bool.Decides.{nat_tests}
 use Rattle.std.proofs.lemmas.List.{drop_more, take_more}
 use Rattle.xd_ledger.specs.Calls.{last_of}
 use Rattle.xd_ledger.specs.Chains.{part_before, final_of}
-use Rattle.xd_ledger.specs.Numbers.{all_distinct, among, first_of}
-use Rattle.xd_ledger.specs.Plan.{Handed}
-use Rattle.xd_ledger.specs.Table.{retried_item}
-use Rattle.xd_ledger.specs.Units.{unless_empty, units_left}
+use Rattle.xd_run.specs.Numbers.{all_distinct, among, first_of}
+use Rattle.xd_run.specs.Plan.{Handed}
+use Rattle.xd_run.specs.Table.{retried_item}
+use Rattle.xd_run.specs.Units.{unless_empty, units_left}
 use Rattle.xd_ledger.proofs.Lists.{preceding-at, among-at, among-append, final-take}
 use Rattle.xd_scope.specs.Stands.{IsSetOf, left_of, left_of_each, units_of}
 

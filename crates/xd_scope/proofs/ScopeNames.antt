@@ -7,7 +7,7 @@ use Rattle.std.proofs.lemmas.Bool.{cases_Bool}
 use Rattle.std.proofs.lemmas.Bool.Decides.{nat_tests}
 use Rattle.std.proofs.lemmas.List.{take-append-drop, drop_at, length-take-le}
 use Rattle.std.proofs.lemmas.Str.{chars-append, chars_from_encodes, encodes-append, encodes-chars, encode_ascii, IsUtf8-take, IsUtf8-drop, IsCharBoundary-before_ascii}
-use Rattle.xd_ledger.specs.Scopes.{before_first, before_last, group_in, has_character, has_colons}
+use Rattle.xd_run.specs.Scopes.{before_first, before_last, group_in, has_character, has_colons}
 
 abbrev pub colons : List ℕ
 colons = 58 ∷ 58 ∷ []

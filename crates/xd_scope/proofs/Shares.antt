@@ -5,11 +5,11 @@ use Rattle.std.proofs.lemmas.Bool.{cases_lt}
 use Rattle.std.proofs.lemmas.List.{get_or-drop, get_or-reverse, length-drop, length-reverse, take_min}
 use Rattle.xd_journal.specs.declared.entry.Entry.{Entry}
 use Rattle.xd_ledger.specs.Calls.{turn}
-use Rattle.xd_ledger.specs.Plan.{Plan}
-use Rattle.xd_ledger.specs.ScopeModes.{scope_share, shut_where_spent}
-use Rattle.xd_ledger.specs.Table.{Table, workers_of}
-use Rattle.xd_ledger.specs.Turn.{Turn, shut, shut_each}
-use Rattle.xd_ledger.proofs.Turns.{workers-shut_turn}
+use Rattle.xd_run.specs.Plan.{Plan}
+use Rattle.xd_run.specs.ScopeModes.{scope_share, shut_where_spent}
+use Rattle.xd_run.specs.Table.{Table, workers_of}
+use Rattle.xd_run.specs.Turn.{Turn, shut, shut_each}
+use Rattle.xd_run.proofs.Turns.{workers-shut_turn}
 use Rattle.xd_scope.specs.declared.units.Units.{Units}
 use Rattle.xd_scope.specs.Stands.{IsAt, Keeps, served_share}
 

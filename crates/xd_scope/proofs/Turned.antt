@@ -4,12 +4,12 @@ use Rattle.std.specs.Prelude.{if◌then◌else◌}
 use Rattle.std.proofs.lemmas.Bool.Decides.{nat_tests}
 use Rattle.xd_journal.specs.declared.entry.Entry.{Entry}
 use Rattle.xd_ledger.specs.Calls.{turn}
-use Rattle.xd_ledger.specs.Plan.{Plan}
-use Rattle.xd_ledger.specs.ScopeModes.{give_more, give_unit, scope_refill}
-use Rattle.xd_ledger.specs.Turn.{enough}
-use Rattle.xd_ledger.specs.Table.{Table, held, seat_shut}
-use Rattle.xd_ledger.specs.Turn.{Turn, in_turn, shut}
-use Rattle.xd_ledger.proofs.Turns.{in_turn-one_more}
+use Rattle.xd_run.specs.Plan.{Plan}
+use Rattle.xd_run.specs.ScopeModes.{give_more, give_unit, scope_refill}
+use Rattle.xd_run.specs.Turn.{enough}
+use Rattle.xd_run.specs.Table.{Table, held, seat_shut}
+use Rattle.xd_run.specs.Turn.{Turn, in_turn, shut}
+use Rattle.xd_run.proofs.Turns.{in_turn-one_more}
 use Rattle.xd_scope.specs.declared.units.Units.{Units}
 use Rattle.xd_scope.specs.Stands.{IsAt, Keeps, give_where_few}
 

@@ -6,13 +6,13 @@ use Rattle.std.specs.Cmp.Lexicographic.{slice_cmp}
 use Rattle.std.specs.Ordering.{nat_cmp}
 use Rattle.std.specs.Str.{IsUtf8, bytes_eq, chars}
 use denote.Ref.{Bor}
-use Rattle.xd_ledger.specs.Numbers.{among}
-use Rattle.xd_ledger.specs.Units.{Group, unless_empty}
+use Rattle.xd_run.specs.Numbers.{among}
+use Rattle.xd_run.specs.Units.{Group, unless_empty}
 use Rattle.xd_journal.specs.declared.entry.Entry.{Entry}
-use Rattle.xd_ledger.specs.Table.{Table, held}
-use Rattle.xd_ledger.specs.Turn.{Turn, enough, in_turn, shut_each}
-use Rattle.xd_ledger.specs.Plan.{Handed, Plan, is_scope}
-use Rattle.xd_ledger.specs.ScopeModes.{give_unit, scope_refill}
+use Rattle.xd_run.specs.Table.{Table, held}
+use Rattle.xd_run.specs.Turn.{Turn, enough, in_turn, shut_each}
+use Rattle.xd_run.specs.Plan.{Handed, Plan, is_scope}
+use Rattle.xd_run.specs.ScopeModes.{give_unit, scope_refill}
 use Rattle.xd_scope.specs.declared.refill.Deal.{Deal}
 use Rattle.xd_scope.specs.declared.refill.Deal.TheVariants as deals
 use Rattle.xd_scope.specs.declared.units.Units.{Units}

@@ -3,9 +3,9 @@ ghost use Rattle.std.specs.Prelude.{◌≡◌, ◌≤◌, ◌++◌, ◌∷◌, �
 ghost use Rattle.std.specs.BTreeSet.{contains};
 ghost use Rattle.std.specs.Ordering.{nat_cmp};
 ghost use Rattle.xd_ledger.specs.Calls.{last_of};
-ghost use Rattle.xd_ledger.specs.Numbers.{all_distinct};
-ghost use Rattle.xd_ledger.specs.Table.{retried_item};
-ghost use Rattle.xd_ledger.specs.Units.{unless_empty};
+ghost use Rattle.xd_run.specs.Numbers.{all_distinct};
+ghost use Rattle.xd_run.specs.Table.{retried_item};
+ghost use Rattle.xd_run.specs.Units.{unless_empty};
 ghost use Rattle.xd_scope.specs.Stands.{IsSetOf, given_to, left_of, left_of_each};
 
 use crate::given::{WorkerUnits, units_of};

@@ -4,8 +4,8 @@ ghost use Rattle.std.specs.BTreeMap.{get_by};
 ghost use Rattle.std.specs.Cmp.Lexicographic.{slice_cmp};
 ghost use Rattle.std.specs.Ordering.{nat_cmp};
 ghost use Rattle.std.specs.Str.{chars};
-ghost use Rattle.xd_ledger.specs.Plan.{is_scope};
-ghost use Rattle.xd_ledger.specs.Units.{Group, added, grouped, units};
+ghost use Rattle.xd_run.specs.Plan.{is_scope};
+ghost use Rattle.xd_run.specs.Units.{Group, added, grouped, units};
 ghost use Rattle.xd_scope.specs.Stands.{AreGrouped};
 
 use crate::names::scope_of;

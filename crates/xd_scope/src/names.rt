@@ -1,8 +1,8 @@
 // The scope of a test, by its id.
 ghost use Rattle.std.specs.Prelude.{◌≡◌, true};
 ghost use Rattle.std.specs.Str.{chars};
-ghost use Rattle.xd_ledger.specs.Plan.{is_scope};
-ghost use Rattle.xd_ledger.specs.Scopes.{before_first, before_last, group_in, scope_of};
+ghost use Rattle.xd_run.specs.Plan.{is_scope};
+ghost use Rattle.xd_run.specs.Scopes.{before_first, before_last, group_in, scope_of};
 
 use xd_edge::ModeKind;
 

@@ -1,11 +1,11 @@
 // Units for workers that hold few tests.
 ghost use Rattle.std.specs.Prelude.{◌≡◌, ◌≤◌, OnOk, length, take, true};
 ghost use Rattle.xd_ledger.specs.Calls.{turn};
-ghost use Rattle.xd_ledger.specs.Plan.{Plan};
-ghost use Rattle.xd_ledger.specs.ScopeModes.{give_more, give_unit, scope_refill, scope_refill_all};
-ghost use Rattle.xd_ledger.specs.Suits.{AreInPool};
-ghost use Rattle.xd_ledger.specs.Table.{in_rota, workers_of};
-ghost use Rattle.xd_ledger.specs.Turn.{enough, in_turn};
+ghost use Rattle.xd_run.specs.Plan.{Plan};
+ghost use Rattle.xd_run.specs.ScopeModes.{give_more, give_unit, scope_refill, scope_refill_all};
+ghost use Rattle.xd_run.specs.Suits.{AreInPool};
+ghost use Rattle.xd_run.specs.Table.{in_rota, workers_of};
+ghost use Rattle.xd_run.specs.Turn.{enough, in_turn};
 ghost use Rattle.xd_scope.specs.Stands.{IsAt, Keeps, dealt_to, give_where_few};
 
 use crate::given::add_given;

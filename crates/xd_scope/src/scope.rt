@@ -1,6 +1,6 @@
 // The mode.
 ghost use Rattle.std.specs.Prelude.{◌≡◌, [], None, true};
-ghost use Rattle.xd_ledger.specs.Plan.{Plan, is_scope};
+ghost use Rattle.xd_run.specs.Plan.{Plan, is_scope};
 ghost use Rattle.xd_scope.specs.Stands.{Keeps};
 
 use crate::fallen::{keep_rest, keep_retried};

@@ -1,11 +1,11 @@
 // The share of the units.
 ghost use Rattle.std.specs.Prelude.{◌≡◌, ◌≤◌, OnOk, drop, length, reverse};
 ghost use Rattle.xd_ledger.specs.Calls.{turn};
-ghost use Rattle.xd_ledger.specs.Plan.{Plan};
-ghost use Rattle.xd_ledger.specs.ScopeModes.{scope_share, shut_where_spent};
-ghost use Rattle.xd_ledger.specs.Suits.{AreInPool};
-ghost use Rattle.xd_ledger.specs.Table.{workers_of};
-ghost use Rattle.xd_ledger.specs.Turn.{shut_each};
+ghost use Rattle.xd_run.specs.Plan.{Plan};
+ghost use Rattle.xd_run.specs.ScopeModes.{scope_share, shut_where_spent};
+ghost use Rattle.xd_run.specs.Suits.{AreInPool};
+ghost use Rattle.xd_run.specs.Table.{workers_of};
+ghost use Rattle.xd_run.specs.Turn.{shut_each};
 ghost use Rattle.xd_scope.specs.Stands.{IsAt, Keeps, served_share};
 
 use crate::refill::{Deal, deal_each};

@@ -6,20 +6,20 @@ use Rattle.std.proofs.lemmas.List.Folds.{list_any-append}
 use Rattle.xd_journal.specs.declared.settings.Settings.{Settings}
 use Rattle.xd_journal.specs.declared.entry.Entry.{Entry}
 use Rattle.xd_journal.specs.declared.entry.Entry.TheVariants.{Ready, Collected, Done, Back, Finished, Refused, Down, NotStarted, Start, Run, RunAll, Steal, Shutdown, Kill, Over}
-use Rattle.xd_ledger.specs.declared.member.Member.{Member}
-use Rattle.xd_ledger.specs.Books.{marked}
-use Rattle.xd_ledger.specs.Collections.{listed, unequal, with_list}
-use Rattle.xd_ledger.specs.Histories.{after_starts, journal_of, after_inputs}
-use Rattle.xd_ledger.specs.Orderly.{is_orderly}
-use Rattle.xd_ledger.specs.Proper.{IsProper, may_follow}
-use Rattle.xd_ledger.specs.Sharing.{State, in_books}
-use Rattle.xd_ledger.specs.State.{after_effect}
-use Rattle.xd_ledger.specs.Workers.{has_collected, is_active, is_shut, made_collected, made_gone, made_ready, made_shut, started, was_ready}
-use Rattle.xd_laws.proofs.Members.{has, has-cleared, has-member, has-more, has-same, is_member}
-use Rattle.xd_laws.proofs.Inputs.{collecting-keeps}
-use Rattle.xd_laws.proofs.Laws.{journal-keeps}
-use Rattle.xd_laws.proofs.Logic.{differ, not_true, split-and, split-or}
-use Rattle.xd_laws.proofs.Walk.{Keeps}
+use Rattle.xd_run.specs.declared.member.Member.{Member}
+use Rattle.xd_run.specs.Books.{marked}
+use Rattle.xd_run.specs.Collections.{listed, unequal, with_list}
+use Rattle.xd_run.specs.Histories.{after_starts, journal_of, after_inputs}
+use Rattle.xd_run.specs.Orderly.{is_orderly}
+use Rattle.xd_run.specs.Proper.{IsProper, may_follow}
+use Rattle.xd_run.specs.Sharing.{State, in_books}
+use Rattle.xd_run.specs.State.{after_effect}
+use Rattle.xd_run.specs.Workers.{has_collected, is_active, is_shut, made_collected, made_gone, made_ready, made_shut, started, was_ready}
+use Rattle.xd_run_laws.proofs.Members.{has, has-cleared, has-member, has-more, has-same, is_member}
+use Rattle.xd_run_laws.proofs.Inputs.{collecting-keeps}
+use Rattle.xd_run_laws.proofs.Laws.{journal-keeps}
+use Rattle.xd_run_laws.proofs.Logic.{differ, not_true, split-and, split-or}
+use Rattle.xd_run_laws.proofs.Walk.{Keeps}
 use Rattle.xd_session.specs.Part.{is_end_of, is_ended}
 
 abbrev Acts : ℕ → List Member → Bool

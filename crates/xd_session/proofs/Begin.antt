@@ -4,18 +4,18 @@ use Rattle.std.proofs.lemmas.Grind.{common_steps, fold-append}
 use Rattle.xd_journal.specs.declared.settings.Settings.{Settings}
 use Rattle.xd_journal.specs.declared.entry.Entry.{Entry}
 use Rattle.xd_journal.specs.declared.entry.Entry.TheVariants.{Start}
-use Rattle.xd_ledger.specs.declared.member.Member.{Member}
-use Rattle.xd_ledger.specs.Books.{Books}
-use Rattle.xd_ledger.specs.Plan.{Plan}
-use Rattle.xd_ledger.specs.Sharing.{State}
-use Rattle.xd_ledger.specs.State.{after_entries, after_entry, no_one, settled, state_at}
-use Rattle.xd_ledger.specs.Histories.{starts_from, first_starts}
-use Rattle.xd_ledger.specs.Proper.{IsProper}
-use Rattle.xd_ledger.specs.Meaning.{spent_by}
-use Rattle.xd_ledger.specs.Workers.{begun_at, started}
+use Rattle.xd_run.specs.declared.member.Member.{Member}
+use Rattle.xd_run.specs.Books.{Books}
+use Rattle.xd_run.specs.Plan.{Plan}
+use Rattle.xd_run.specs.Sharing.{State}
+use Rattle.xd_run.specs.State.{after_entries, after_entry, no_one, settled, state_at}
+use Rattle.xd_run.specs.Histories.{starts_from, first_starts}
+use Rattle.xd_run.specs.Proper.{IsProper}
+use Rattle.xd_run.specs.Meaning.{spent_by}
+use Rattle.xd_run.specs.Workers.{begun_at, started}
 use Rattle.std.proofs.lemmas.List.{append-nil}
-use Rattle.xd_run_books.specs.Known.{Known, known_plan}
-use Rattle.xd_rules.specs.Rules.{At, InStep}
+use Rattle.xd_session_books.specs.Known.{Known, known_plan}
+use Rattle.xd_session_rules.specs.Rules.{At, InStep}
 use Rattle.xd_session.specs.Stands.{CanBegin}
 
 -- the start with these workers

@@ -15,22 +15,22 @@ use Rattle.xd_journal.specs.declared.news.News.{News}
 use Rattle.xd_journal.specs.declared.news.What.{What}
 use Rattle.xd_journal.specs.declared.news.What.TheVariants as what
 use Rattle.xd_journal.specs.Kept.{most_of_all, most_of_one}
-use Rattle.xd_ledger.specs.Collections.{listed}
-use Rattle.xd_ledger.specs.Histories.{starts_from}
-use Rattle.xd_ledger.specs.Meaning.{Log, any_open, given_ids, head_bytes, is_of, is_open_log, kept_at_death, log_of, may_start_log, meaning_of, output_of, spent_by}
-use Rattle.xd_ledger.specs.Orderly.{all_orderly, is_orderly}
-use Rattle.xd_ledger.specs.Outputs.{outputs}
-use Rattle.xd_ledger.specs.Proper.{IsProper, may_follow, names_head}
-use Rattle.xd_ledger.specs.Retry.{is_retry}
-use Rattle.xd_ledger.specs.Sharing.{State}
-use Rattle.xd_ledger.specs.State.{after_effect}
-use Rattle.xd_ledger.specs.Workers.{is_active}
-use Rattle.xd_laws.proofs.Logic.{and, differ, split-and}
+use Rattle.xd_run.specs.Collections.{listed}
+use Rattle.xd_run.specs.Histories.{starts_from}
+use Rattle.xd_run.specs.Meaning.{Log, any_open, given_ids, head_bytes, is_of, is_open_log, kept_at_death, log_of, may_start_log, meaning_of, output_of, spent_by}
+use Rattle.xd_run.specs.Orderly.{all_orderly, is_orderly}
+use Rattle.xd_run.specs.Outputs.{outputs}
+use Rattle.xd_run.specs.Proper.{IsProper, may_follow, names_head}
+use Rattle.xd_run.specs.Retry.{is_retry}
+use Rattle.xd_run.specs.Sharing.{State}
+use Rattle.xd_run.specs.State.{after_effect}
+use Rattle.xd_run.specs.Workers.{is_active}
+use Rattle.xd_run_laws.proofs.Logic.{and, differ, split-and}
 use Rattle.xd_session.specs.Bounded.{IsBounded, keeps_few}
-use Rattle.xd_run_books.specs.Compared.{comparison, ids_to_list}
+use Rattle.xd_session_books.specs.Compared.{comparison, ids_to_list}
 use Rattle.xd_session.specs.History.{IsProperRun, Run as SoFar, after_news, begun_run, entries_with, input_of, run_of, said_by}
 use Rattle.xd_session.proofs.Begin.{starts-spend}
-use Rattle.xd_rules.proofs.Shares.{given-is}
+use Rattle.xd_session_rules.proofs.Shares.{given-is}
 use Rattle.xd_session.proofs.Steps.{none-some, outputs-orderly, same-entry, sound-next, sound-run, spent-more}
 
 -- the input keeps few bytes, and where n are kept there is room for them

@@ -11,21 +11,21 @@ use Rattle.xd_journal.specs.declared.entry.RunStop.TheVariants.{CollectError, Co
 use Rattle.xd_journal.specs.declared.entry.Entry.{Entry}
 use Rattle.xd_journal.specs.declared.entry.Entry.TheVariants.{Ready, Collected, Done, Back, Finished, Refused, Down, NotStarted, Start, Run, RunAll, Steal, Shutdown, Kill, Over}
 use Rattle.xd_journal.specs.Stop.{reaches}
-use Rattle.xd_ledger.specs.declared.member.Listed.{Listed}
-use Rattle.xd_ledger.specs.Books.{Books, marked}
-use Rattle.xd_ledger.specs.Workers.{made_collected, slot_of}
-use Rattle.xd_ledger.specs.Collections.{differ_at, listed, unequal, with_list}
-use Rattle.xd_ledger.specs.Stops.{at_limit, or_stop, out_of_restarts}
-use Rattle.xd_ledger.specs.Retry.{is_retry}
-use Rattle.xd_ledger.specs.Sharing.{State, in_books}
-use Rattle.xd_ledger.specs.Deaths.{buried, down_books, gone}
-use Rattle.xd_ledger.specs.Results.{completed_first, done_books, done_stop, failing}
-use Rattle.xd_ledger.specs.State.{after_entries, is_input, after_effect, after_entry, no_one, settled, state_at}
-use Rattle.xd_ledger.specs.Ending.{ending, over_in}
-use Rattle.xd_ledger.specs.Plan.{items_named}
-use Rattle.xd_laws.proofs.Inputs.{collecting-keeps}
-use Rattle.xd_laws.proofs.Logic.{in_both, not_true}
-use Rattle.xd_laws.proofs.NoOver.{NoOver, stop-failed, stop-over}
+use Rattle.xd_run.specs.declared.member.Listed.{Listed}
+use Rattle.xd_run.specs.Books.{Books, marked}
+use Rattle.xd_run.specs.Workers.{made_collected, slot_of}
+use Rattle.xd_run.specs.Collections.{differ_at, listed, unequal, with_list}
+use Rattle.xd_run.specs.Stops.{at_limit, or_stop, out_of_restarts}
+use Rattle.xd_run.specs.Retry.{is_retry}
+use Rattle.xd_run.specs.Sharing.{State, in_books}
+use Rattle.xd_run.specs.Deaths.{buried, down_books, gone}
+use Rattle.xd_run.specs.Results.{completed_first, done_books, done_stop, failing}
+use Rattle.xd_run.specs.State.{after_entries, is_input, after_effect, after_entry, no_one, settled, state_at}
+use Rattle.xd_run.specs.Ending.{ending, over_in}
+use Rattle.xd_run.specs.Plan.{items_named}
+use Rattle.xd_run_laws.proofs.Inputs.{collecting-keeps}
+use Rattle.xd_run_laws.proofs.Logic.{in_both, not_true}
+use Rattle.xd_run_laws.proofs.NoOver.{NoOver, stop-failed, stop-over}
 use Rattle.xd_session.specs.Ends.{is_out_fault, last_stop}
 
 -- the end says with which stop a journal ends

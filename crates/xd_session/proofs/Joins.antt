@@ -7,25 +7,25 @@ use Rattle.xd_journal.specs.declared.entry.RunStop.{RunStop}
 use Rattle.xd_journal.specs.declared.entry.Ids.{Ids}
 use Rattle.xd_journal.specs.declared.entry.Entry.{Entry}
 use Rattle.xd_journal.specs.declared.entry.Entry.TheVariants.{Ready, Collected, Done, Back, Finished, Refused, Down, NotStarted, Start, Run, RunAll, Steal, Shutdown, Kill, Over}
-use Rattle.xd_ledger.specs.declared.member.Member.{Member}
-use Rattle.xd_ledger.specs.Collections.{listed, unequal, with_list}
-use Rattle.xd_ledger.specs.Numbers.{among}
-use Rattle.xd_ledger.specs.Plan.{items_named}
-use Rattle.xd_ledger.specs.Table.{Table}
-use Rattle.xd_ledger.specs.Books.{marked}
-use Rattle.xd_ledger.specs.Workers.{has_collected, is_active, is_shut, made_collected, made_gone, made_ready, made_shut, slot_of, started, was_ready}
-use Rattle.xd_ledger.specs.Sharing.{State, in_books, is_full, joining}
-use Rattle.xd_ledger.specs.Collecting.{collecting}
-use Rattle.xd_ledger.specs.Results.{completed_first}
-use Rattle.xd_ledger.specs.State.{after_entries, after_effect, no_one}
-use Rattle.xd_ledger.specs.Outputs.{outputs, after_input}
-use Rattle.xd_ledger.specs.Histories.{after_starts, starts_from, after_inputs}
-use Rattle.xd_ledger.specs.Orderly.{all_orderly, is_orderly, is_orderly_run}
-use Rattle.xd_ledger.specs.Proper.{IsProper, all_may_follow, are_ids, may_follow}
-use Rattle.xd_laws.proofs.Members.{has, has-kept, has-member, has-more, has-same, has-set}
-use Rattle.xd_laws.proofs.Laws.{orderly}
-use Rattle.xd_laws.proofs.Logic.{differ, or-left, split-and, split-or}
-use Rattle.xd_laws.proofs.Turns.{after_entries-first}
+use Rattle.xd_run.specs.declared.member.Member.{Member}
+use Rattle.xd_run.specs.Collections.{listed, unequal, with_list}
+use Rattle.xd_run.specs.Numbers.{among}
+use Rattle.xd_run.specs.Plan.{items_named}
+use Rattle.xd_run.specs.Table.{Table}
+use Rattle.xd_run.specs.Books.{marked}
+use Rattle.xd_run.specs.Workers.{has_collected, is_active, is_shut, made_collected, made_gone, made_ready, made_shut, slot_of, started, was_ready}
+use Rattle.xd_run.specs.Sharing.{State, in_books, is_full, joining}
+use Rattle.xd_run.specs.Collecting.{collecting}
+use Rattle.xd_run.specs.Results.{completed_first}
+use Rattle.xd_run.specs.State.{after_entries, after_effect, no_one}
+use Rattle.xd_run.specs.Outputs.{outputs, after_input}
+use Rattle.xd_run.specs.Histories.{after_starts, starts_from, after_inputs}
+use Rattle.xd_run.specs.Orderly.{all_orderly, is_orderly, is_orderly_run}
+use Rattle.xd_run.specs.Proper.{IsProper, all_may_follow, are_ids, may_follow}
+use Rattle.xd_run_laws.proofs.Members.{has, has-kept, has-member, has-more, has-same, has-set}
+use Rattle.xd_run_laws.proofs.Laws.{orderly}
+use Rattle.xd_run_laws.proofs.Logic.{differ, or-left, split-and, split-or}
+use Rattle.xd_run_laws.proofs.Turns.{after_entries-first}
 
 -- each of these workers has given its collection
 abbrev pub HaveCollected : List ℕ → List Member → Type 0

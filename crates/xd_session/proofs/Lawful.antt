@@ -5,23 +5,23 @@ use Rattle.xd_journal.specs.declared.settings.Settings.{Settings}
 use Rattle.xd_journal.specs.declared.journal.Journal.{Journal}
 use Rattle.xd_journal.specs.declared.entry.Entry.{Entry}
 use Rattle.xd_journal.specs.declared.news.News.{News}
-use Rattle.xd_ledger.specs.Books.{Books}
-use Rattle.xd_ledger.specs.Plan.{Plan}
-use Rattle.xd_ledger.specs.Sharing.{State}
-use Rattle.xd_ledger.specs.State.{is_input, state_at}
-use Rattle.xd_ledger.specs.Histories.{after_starts, journal_of}
-use Rattle.xd_ledger.specs.Ending.{ending, may_close, stop_of}
-use Rattle.xd_ledger.specs.Legal.{EndsWith, IsLegal}
-use Rattle.xd_ledger.specs.Proper.{IsProper}
-use Rattle.xd_laws.proofs.NoOver.{no-over-journal}
-use Rattle.xd_laws.proofs.Walk.{all-inputs, journal-state}
-use Rattle.xd_run_books.specs.declared.logs.WorkerLog.{WorkerLog}
+use Rattle.xd_run.specs.Books.{Books}
+use Rattle.xd_run.specs.Plan.{Plan}
+use Rattle.xd_run.specs.Sharing.{State}
+use Rattle.xd_run.specs.State.{is_input, state_at}
+use Rattle.xd_run.specs.Histories.{after_starts, journal_of}
+use Rattle.xd_run.specs.Ending.{ending, may_close, stop_of}
+use Rattle.xd_run.specs.Legal.{EndsWith, IsLegal}
+use Rattle.xd_run.specs.Proper.{IsProper}
+use Rattle.xd_run_laws.proofs.NoOver.{no-over-journal}
+use Rattle.xd_run_laws.proofs.Walk.{all-inputs, journal-state}
+use Rattle.xd_session_books.specs.declared.logs.WorkerLog.{WorkerLog}
 use Rattle.xd_session.specs.Ends.{is_out_fault, last_stop}
-use Rattle.xd_run_books.specs.Known.{Known}
-use Rattle.xd_rules.specs.Rules.{InStep}
+use Rattle.xd_session_books.specs.Known.{Known}
+use Rattle.xd_session_rules.specs.Rules.{InStep}
 use Rattle.xd_session.specs.Stands.{SessionSeen, StandsForNews, state_of}
 use Rattle.xd_session.proofs.Begin.{begun-proper}
-use Rattle.xd_rules.proofs.Closing.{append-nil}
+use Rattle.xd_session_rules.proofs.Closing.{append-nil}
 use Rattle.xd_session.proofs.Ends.{ending-stop, told-so}
 
 -- whoever stands for news has settings of a proper run
@@ -36,12 +36,12 @@ module _ (settings : Settings) (entries : List Entry) (logs : List WorkerLog) (s
   legal-by last is e =
       let following = ap (state_at settings) k.journal ∙ journal-state settings k.inputs k.proper.follow in
       inr (record {
-        mode = subst (λ (x : Settings). Rattle.xd_ledger.specs.Proper.has_workers x.mode ≡ true) (sym same) k.proper.mode;
+        mode = subst (λ (x : Settings). Rattle.xd_run.specs.Proper.has_workers x.mode ≡ true) (sym same) k.proper.mode;
         inputs = k.inputs;
         are_inputs = inputs-are;
         last = last;
         entries = is ∙ ap (λ (es : List Entry). es ++ last) k.journal ∙ ap (λ (x : Settings). journal_of x k.inputs ++ last) (sym same);
-        ends = subst (λ (x : Settings). EndsWith (Rattle.xd_ledger.specs.Histories.after_inputs (after_starts x) k.inputs).books last) (sym same) (subst (λ (x : State). EndsWith x.books last) following e);
+        ends = subst (λ (x : Settings). EndsWith (Rattle.xd_run.specs.Histories.after_inputs (after_starts x) k.inputs).books last) (sym same) (subst (λ (x : State). EndsWith x.books last) following e);
       })
 
   pub legal-so-far : j.entries.items ≡ entries → IsLegal j
@@ -54,7 +54,7 @@ module _ (settings : Settings) (entries : List Entry) (logs : List WorkerLog) (s
     pub stop-ended : stop_of j ≡ last_stop failed (state_at settings entries).books
     stop-ended =
         let none = no-over-journal settings k.inputs inputs-are in
-        let over = λ (es : List Entry). Rattle.xd_ledger.specs.Ending.over_in es (Rattle.xd_ledger.specs.Histories.run_end_of (state_at j.settings j.entries.items).books) in
+        let over = λ (es : List Entry). Rattle.xd_run.specs.Ending.over_in es (Rattle.xd_run.specs.Histories.run_end_of (state_at j.settings j.entries.items).books) in
         ap over (is ∙ ap (λ (es : List Entry). es ++ ending failed (state_at settings entries).books) k.journal)
         ∙ ending-stop failed (state_at settings entries).books (journal_of settings k.inputs) _ none
 

@@ -13,19 +13,19 @@ use Rattle.xd_journal.specs.declared.entry.Entry.TheVariants.{Ready, Collected, 
 use Rattle.xd_journal.specs.declared.news.News.{News}
 use Rattle.xd_journal.specs.declared.news.What.{What}
 use Rattle.xd_journal.specs.declared.news.What.TheVariants as what
-use Rattle.xd_ledger.specs.Histories.{journal_of, starts_from}
-use Rattle.xd_ledger.specs.Meaning.{Log, any_open, breach, given_ids, is_of, is_open_log, kept_at_death, log_of, may_start_log, meaning_of, output_of, spent_by}
-use Rattle.xd_ledger.specs.Orderly.{all_orderly, is_orderly}
-use Rattle.xd_ledger.specs.Outputs.{outputs}
-use Rattle.xd_ledger.specs.Proper.{IsProper, may_follow, names_head}
-use Rattle.xd_ledger.specs.Sharing.{State}
-use Rattle.xd_ledger.specs.State.{after_effect}
-use Rattle.xd_ledger.specs.Workers.{has_member, is_active}
-use Rattle.xd_laws.proofs.Logic.{and, cases_of, differ, in_both, or-right, split-and}
+use Rattle.xd_run.specs.Histories.{journal_of, starts_from}
+use Rattle.xd_run.specs.Meaning.{Log, any_open, breach, given_ids, is_of, is_open_log, kept_at_death, log_of, may_start_log, meaning_of, output_of, spent_by}
+use Rattle.xd_run.specs.Orderly.{all_orderly, is_orderly}
+use Rattle.xd_run.specs.Outputs.{outputs}
+use Rattle.xd_run.specs.Proper.{IsProper, may_follow, names_head}
+use Rattle.xd_run.specs.Sharing.{State}
+use Rattle.xd_run.specs.State.{after_effect}
+use Rattle.xd_run.specs.Workers.{has_member, is_active}
+use Rattle.xd_run_laws.proofs.Logic.{and, cases_of, differ, in_both, or-right, split-and}
 use Rattle.xd_session.specs.History.{IsProperRun, Run as SoFar, entries_with, input_of, run_of, said_by}
 use Rattle.xd_session.specs.Part.{EndsWorker, HasPart, MeansEach, as_list, inputs_by, is_end_of, is_ended, is_of_log, is_said_by, meant_after, meant_by}
 use Rattle.xd_session.proofs.Activity.{Active, active-following}
-use Rattle.xd_rules.proofs.Shares.{given-is}
+use Rattle.xd_session_rules.proofs.Shares.{given-is}
 use Rattle.xd_session.proofs.Steps.{none-some, outputs-orderly, run-more, same-entry, sound-run}
 
 -- outputs are no inputs

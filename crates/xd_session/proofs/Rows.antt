@@ -9,7 +9,7 @@ use Rattle.xd_journal.specs.declared.entry.Entry.{Entry}
 use Rattle.xd_journal.specs.declared.entry.Entry.TheVariants.{Ready, Collected, Down, Start, Run, Shutdown, Kill}
 use Rattle.xd_journal.specs.declared.news.News.{News}
 use Rattle.xd_journal.specs.declared.news.What.TheVariants as what
-use Rattle.xd_ledger.specs.Proper.{IsProper}
+use Rattle.xd_run.specs.Proper.{IsProper}
 use Rattle.xd_session.specs.History.{run_of}
 use Rattle.xd_session.specs.Part.{inputs_by, meant_by}
 use Rattle.xd_session.proofs.Part.{part-of}

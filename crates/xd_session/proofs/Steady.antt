@@ -5,34 +5,34 @@ use Rattle.xd_journal.specs.declared.settings.Settings.{Settings}
 use Rattle.xd_journal.specs.declared.entry.Entry.{Entry}
 use Rattle.xd_journal.specs.declared.news.News.{News}
 use Rattle.xd_journal.specs.declared.news.What.{What}
-use Rattle.xd_ledger.specs.Books.{Books}
-use Rattle.xd_ledger.specs.Histories.{after_starts, is_over, journal_of, after_inputs}
-use Rattle.xd_ledger.specs.Meaning.{Log, log_of, meaning_of, spent_by, with_news}
-use Rattle.xd_ledger.specs.Outputs.{outputs}
-use Rattle.xd_ledger.specs.Owes.{someone_owes}
-use Rattle.xd_ledger.specs.Plan.{Plan, total}
-use Rattle.xd_ledger.specs.Proper.{may_follow}
-use Rattle.xd_ledger.specs.Sharing.{State}
-use Rattle.xd_ledger.specs.State.{state_at}
-use Rattle.xd_ledger.specs.Stops.{is_stopped}
-use Rattle.xd_ledger.specs.Table.{all_items, has_joined}
-use Rattle.xd_ledger.specs.Workers.{has_collected, is_active, is_shut, was_ready}
-use Rattle.xd_laws.proofs.Calls.{tidy-reached}
-use Rattle.xd_laws.proofs.Counts.{empty-of_times}
-use Rattle.xd_laws.proofs.Members.{distinct-numbered}
-use Rattle.xd_laws.proofs.Logic.{cases_of, differ}
-use Rattle.xd_laws.proofs.OwingRuns.{owed}
-use Rattle.xd_laws.proofs.Placed.{due_times}
-use Rattle.xd_laws.proofs.Turns.{Tidy}
-use Rattle.xd_laws.proofs.Walk.{journal-state}
-use Rattle.xd_run_books.specs.declared.logs.WorkerLog.{WorkerLog}
+use Rattle.xd_run.specs.Books.{Books}
+use Rattle.xd_run.specs.Histories.{after_starts, is_over, journal_of, after_inputs}
+use Rattle.xd_run.specs.Meaning.{Log, log_of, meaning_of, spent_by, with_news}
+use Rattle.xd_run.specs.Outputs.{outputs}
+use Rattle.xd_run.specs.Owes.{someone_owes}
+use Rattle.xd_run.specs.Plan.{Plan, total}
+use Rattle.xd_run.specs.Proper.{may_follow}
+use Rattle.xd_run.specs.Sharing.{State}
+use Rattle.xd_run.specs.State.{state_at}
+use Rattle.xd_run.specs.Stops.{is_stopped}
+use Rattle.xd_run.specs.Table.{all_items, has_joined}
+use Rattle.xd_run.specs.Workers.{has_collected, is_active, is_shut, was_ready}
+use Rattle.xd_run_laws.proofs.Calls.{tidy-reached}
+use Rattle.xd_run_laws.proofs.Counts.{empty-of_times}
+use Rattle.xd_run_laws.proofs.Members.{distinct-numbered}
+use Rattle.xd_run_laws.proofs.Logic.{cases_of, differ}
+use Rattle.xd_run_laws.proofs.OwingRuns.{owed}
+use Rattle.xd_run_laws.proofs.Placed.{due_times}
+use Rattle.xd_run_laws.proofs.Turns.{Tidy}
+use Rattle.xd_run_laws.proofs.Walk.{journal-state}
+use Rattle.xd_session_books.specs.declared.logs.WorkerLog.{WorkerLog}
 use Rattle.xd_session.specs.History.{Run as SoFar, entries_with, input_of, run_of, said_by}
-use Rattle.xd_rules.specs.Joining.{IsBare, IsToJoin}
-use Rattle.xd_run_books.specs.Kept.{log_in, shortened}
-use Rattle.xd_run_books.specs.Known.{Known}
-use Rattle.xd_rules.specs.Rules.{At, InStep}
+use Rattle.xd_session_rules.specs.Joining.{IsBare, IsToJoin}
+use Rattle.xd_session_books.specs.Kept.{log_in, shortened}
+use Rattle.xd_session_books.specs.Known.{Known}
+use Rattle.xd_session_rules.specs.Rules.{At, InStep}
 use Rattle.xd_session.specs.Stands.{SessionSeen, StandsForNews}
-use Rattle.xd_session.specs.Told.{Steady, Told, TookNews}
+use Rattle.xd_session.specs.inner.Told.{Steady, Told, TookNews}
 use Rattle.xd_session.proofs.Joins.{AllCollected, joins-following}
 use Rattle.xd_session.proofs.Steps.{journal-more, logs-more, meaning-follows, meaning-short, orderly-next, proper-more, run-more, run-taken, short-twice, sound-run, spent-more, state-next}
 use Rattle.xd_session.proofs.Waiting.{AllTold, shut-where, told-following}

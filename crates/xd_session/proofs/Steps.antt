@@ -14,22 +14,22 @@ use Rattle.xd_journal.specs.declared.news.News.{News}
 use Rattle.xd_journal.specs.declared.news.What.{What}
 use Rattle.xd_journal.specs.declared.news.What.TheVariants as what
 use Rattle.xd_journal.specs.Kept.{output_room, most_of_all, most_of_one}
-use Rattle.xd_ledger.specs.Histories.{after_starts, first_starts, grown, journal_of, after_inputs}
-use Rattle.xd_ledger.specs.Meaning.{Log, given_ids, head_bytes, is_of, any_open, kept_at_death, log_of, may_start_log, meaning_of, output_of, is_open_log, spent_by, with_news}
-use Rattle.xd_ledger.specs.Orderly.{all_orderly, is_orderly, is_orderly_run}
-use Rattle.xd_ledger.specs.Outputs.{outputs, after_input}
-use Rattle.xd_ledger.specs.Proper.{IsProper, all_may_follow, may_follow, names_head}
-use Rattle.xd_ledger.specs.Retry.{is_retry}
-use Rattle.xd_ledger.specs.Sharing.{State}
-use Rattle.xd_ledger.specs.State.{after_effect, state_at}
-use Rattle.xd_ledger.specs.Workers.{is_active}
-use Rattle.xd_laws.proofs.Laws.{orderly}
-use Rattle.xd_laws.proofs.Logic.{and, differ, split-and}
-use Rattle.xd_laws.proofs.Walk.{input-of}
-use Rattle.xd_run_books.specs.declared.logs.WorkerLog.{WorkerLog}
+use Rattle.xd_run.specs.Histories.{after_starts, first_starts, grown, journal_of, after_inputs}
+use Rattle.xd_run.specs.Meaning.{Log, given_ids, head_bytes, is_of, any_open, kept_at_death, log_of, may_start_log, meaning_of, output_of, is_open_log, spent_by, with_news}
+use Rattle.xd_run.specs.Orderly.{all_orderly, is_orderly, is_orderly_run}
+use Rattle.xd_run.specs.Outputs.{outputs, after_input}
+use Rattle.xd_run.specs.Proper.{IsProper, all_may_follow, may_follow, names_head}
+use Rattle.xd_run.specs.Retry.{is_retry}
+use Rattle.xd_run.specs.Sharing.{State}
+use Rattle.xd_run.specs.State.{after_effect, state_at}
+use Rattle.xd_run.specs.Workers.{is_active}
+use Rattle.xd_run_laws.proofs.Laws.{orderly}
+use Rattle.xd_run_laws.proofs.Logic.{and, differ, split-and}
+use Rattle.xd_run_laws.proofs.Walk.{input-of}
+use Rattle.xd_session_books.specs.declared.logs.WorkerLog.{WorkerLog}
 use Rattle.xd_session.specs.History.{IsProperRun, Run as SoFar, after_news, begun_run, entries_with, input_of, inputs_with, run_of, said_by, state_with}
-use Rattle.xd_run_books.specs.Kept.{log_in, shortened}
-use Rattle.xd_rules.proofs.Closing.{state-grown}
+use Rattle.xd_session_books.specs.Kept.{log_in, shortened}
+use Rattle.xd_session_rules.proofs.Closing.{state-grown}
 
 -- the state after one more input
 

@@ -10,26 +10,26 @@ use Rattle.xd_journal.specs.declared.entry.Outcome.{Outcome}
 use Rattle.xd_journal.specs.declared.news.What.{What}
 use Rattle.xd_journal.specs.declared.news.What.TheVariants as what
 use Rattle.xd_journal.specs.Kept.{most_of_all}
-use Rattle.xd_ledger.specs.Books.{Books}
-use Rattle.xd_ledger.specs.Meaning.{Log, any_open, breach, given_ids, is_of, is_open_log, may_start_log, meaning_of, output_of, spent_by, with_news}
-use Rattle.xd_ledger.specs.Plan.{Plan}
+use Rattle.xd_run.specs.Books.{Books}
+use Rattle.xd_run.specs.Meaning.{Log, any_open, breach, given_ids, is_of, is_open_log, may_start_log, meaning_of, output_of, spent_by, with_news}
+use Rattle.xd_run.specs.Plan.{Plan}
 use Rattle.xd_edge.specs.Limits.{most_tests}
 use Rattle.xd_edge.specs.Ids.{is_id}
-use Rattle.xd_ledger.specs.Proper.{are_ids, may_follow, names_head, no_text_twice}
-use Rattle.xd_ledger.specs.Sharing.{State}
-use Rattle.xd_ledger.specs.Table.{held}
-use Rattle.xd_ledger.specs.Workers.{has_collected, is_active, is_shut, was_ready}
-use Rattle.xd_laws.proofs.Logic.{and, not_true, split-and}
-use Rattle.xd_laws.proofs.Placed.{empty_of}
-use Rattle.xd_rules.specs.declared.judge.Verdict.TheVariants.{Silent, Follows, Breach}
-use Rattle.xd_run_books.specs.declared.logs.WorkerLog.{WorkerLog}
-use Rattle.xd_rules.specs.Judged.{follows_where, judged, silent_where}
-use Rattle.xd_run_books.specs.Kept.{log_in, shortened}
-use Rattle.xd_run_books.specs.Known.{Known}
-use Rattle.xd_rules.specs.Rules.{At, Comes, Ruled}
-use Rattle.xd_session.specs.Told.{Steady, Told, TookNews}
-use Rattle.xd_rules.proofs.Disorder.{in_order, orderly-collection}
-use Rattle.xd_rules.proofs.Shares.{given-is}
+use Rattle.xd_run.specs.Proper.{are_ids, may_follow, names_head, no_text_twice}
+use Rattle.xd_run.specs.Sharing.{State}
+use Rattle.xd_run.specs.Table.{held}
+use Rattle.xd_run.specs.Workers.{has_collected, is_active, is_shut, was_ready}
+use Rattle.xd_run_laws.proofs.Logic.{and, not_true, split-and}
+use Rattle.xd_run_laws.proofs.Placed.{empty_of}
+use Rattle.xd_session_rules.specs.declared.judge.Verdict.TheVariants.{Silent, Follows, Breach}
+use Rattle.xd_session_books.specs.declared.logs.WorkerLog.{WorkerLog}
+use Rattle.xd_session_rules.specs.Judged.{follows_where, judged, silent_where}
+use Rattle.xd_session_books.specs.Kept.{log_in, shortened}
+use Rattle.xd_session_books.specs.Known.{Known}
+use Rattle.xd_session_rules.specs.Rules.{At, Comes, Ruled}
+use Rattle.xd_session.specs.inner.Told.{Steady, Told, TookNews}
+use Rattle.xd_session_rules.proofs.Disorder.{in_order, orderly-collection}
+use Rattle.xd_session_rules.proofs.Shares.{given-is}
 
 -- verdicts
 

@@ -8,25 +8,25 @@ use Rattle.xd_journal.specs.declared.entry.RunStop.{RunStop}
 use Rattle.xd_journal.specs.declared.entry.Ids.{Ids}
 use Rattle.xd_journal.specs.declared.entry.Entry.{Entry}
 use Rattle.xd_journal.specs.declared.entry.Entry.TheVariants.{Ready, Collected, Done, Back, Finished, Refused, Down, NotStarted, Start, Run, RunAll, Steal, Shutdown, Kill, Over}
-use Rattle.xd_ledger.specs.declared.member.Member.{Member}
-use Rattle.xd_ledger.specs.Books.{Books, marked}
-use Rattle.xd_ledger.specs.Collections.{listed, unequal, with_list}
-use Rattle.xd_ledger.specs.Histories.{after_starts, starts_from, after_inputs}
-use Rattle.xd_ledger.specs.Modes.ModeCall.{TestDone, TestsBack}
-use Rattle.xd_ledger.specs.Numbers.{all_distinct, among}
-use Rattle.xd_ledger.specs.Orderly.{all_orderly, is_orderly, is_orderly_run}
-use Rattle.xd_ledger.specs.Outputs.{acts_of, outputs_of_death, outputs_of_joining, closing, outputs, own_outputs, shut_all, after_input, unless_stopped}
-use Rattle.xd_ledger.specs.Proper.{IsProper, all_may_follow, may_follow}
-use Rattle.xd_ledger.specs.Sharing.{State, in_books}
-use Rattle.xd_ledger.specs.Collecting.{collecting}
-use Rattle.xd_ledger.specs.State.{after_entries, after_effect, no_one}
-use Rattle.xd_ledger.specs.Stops.{is_shutting, is_stopped}
-use Rattle.xd_ledger.specs.Workers.{is_shut, is_waiting, made_collected, made_gone, made_ready, made_shut, started}
-use Rattle.xd_laws.proofs.Members.{has, has-cleared, has-more, has-same, numbers}
-use Rattle.xd_laws.proofs.Inputs.{collecting-keeps}
-use Rattle.xd_laws.proofs.Laws.{orderly}
-use Rattle.xd_laws.proofs.Logic.{and-false, cases_of, differ, in_both, or-left, or-right, split-and, split-or}
-use Rattle.xd_laws.proofs.Turns.{after_entries-first}
+use Rattle.xd_run.specs.declared.member.Member.{Member}
+use Rattle.xd_run.specs.Books.{Books, marked}
+use Rattle.xd_run.specs.Collections.{listed, unequal, with_list}
+use Rattle.xd_run.specs.Histories.{after_starts, starts_from, after_inputs}
+use Rattle.xd_run.specs.Modes.ModeCall.{TestDone, TestsBack}
+use Rattle.xd_run.specs.Numbers.{all_distinct, among}
+use Rattle.xd_run.specs.Orderly.{all_orderly, is_orderly, is_orderly_run}
+use Rattle.xd_run.specs.Outputs.{acts_of, outputs_of_death, outputs_of_joining, closing, outputs, own_outputs, shut_all, after_input, unless_stopped}
+use Rattle.xd_run.specs.Proper.{IsProper, all_may_follow, may_follow}
+use Rattle.xd_run.specs.Sharing.{State, in_books}
+use Rattle.xd_run.specs.Collecting.{collecting}
+use Rattle.xd_run.specs.State.{after_entries, after_effect, no_one}
+use Rattle.xd_run.specs.Stops.{is_shutting, is_stopped}
+use Rattle.xd_run.specs.Workers.{is_shut, is_waiting, made_collected, made_gone, made_ready, made_shut, started}
+use Rattle.xd_run_laws.proofs.Members.{has, has-cleared, has-more, has-same, numbers}
+use Rattle.xd_run_laws.proofs.Inputs.{collecting-keeps}
+use Rattle.xd_run_laws.proofs.Laws.{orderly}
+use Rattle.xd_run_laws.proofs.Logic.{and-false, cases_of, differ, in_both, or-left, or-right, split-and, split-or}
+use Rattle.xd_run_laws.proofs.Turns.{after_entries-first}
 
 -- the worker is active, was ready and was not told to shut down
 abbrev Waits : ℕ → List Member → Bool

@@ -4,7 +4,7 @@ use Rattle.std.specs.List.{list_all}
 use Rattle.xd_journal.specs.declared.entry.Entry.{Entry}
 use Rattle.xd_journal.specs.declared.entry.Entry.TheVariants.{Done, Down}
 use Rattle.xd_journal.specs.Kept.{most_of_all, most_of_one}
-use Rattle.xd_ledger.specs.Meaning.{spent_by}
+use Rattle.xd_run.specs.Meaning.{spent_by}
 
 -- what the entry keeps of a test is no more than may be kept of one
 abbrev pub keeps_few : Entry → Bool

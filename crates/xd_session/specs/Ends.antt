@@ -2,8 +2,8 @@
 use Rattle.std.specs.Prelude.{Bool, true, false}
 use Rattle.xd_journal.specs.declared.entry.RunStop.{RunStop}
 use Rattle.xd_journal.specs.declared.entry.RunStop.TheVariants.{OutFault}
-use Rattle.xd_ledger.specs.Books.{Books}
-use Rattle.xd_ledger.specs.Histories.{run_end_of}
+use Rattle.xd_run.specs.Books.{Books}
+use Rattle.xd_run.specs.Histories.{run_end_of}
 
 -- the report could not be written
 abbrev pub is_out_fault : RunStop → Bool

@@ -4,11 +4,11 @@ use Rattle.xd_journal.specs.declared.settings.Settings.{Settings}
 use Rattle.xd_journal.specs.declared.entry.Entry.{Entry}
 use Rattle.xd_journal.specs.declared.news.News.{News}
 use Rattle.xd_journal.specs.declared.news.What.{What}
-use Rattle.xd_ledger.specs.Sharing.{State}
-use Rattle.xd_ledger.specs.Outputs.{outputs, after_input}
-use Rattle.xd_ledger.specs.Histories.{first_starts, after_starts, journal_of, after_inputs}
-use Rattle.xd_ledger.specs.Meaning.{meaning}
-use Rattle.xd_ledger.specs.Proper.{IsProper}
+use Rattle.xd_run.specs.Sharing.{State}
+use Rattle.xd_run.specs.Outputs.{outputs, after_input}
+use Rattle.xd_run.specs.Histories.{first_starts, after_starts, journal_of, after_inputs}
+use Rattle.xd_run.specs.Meaning.{meaning}
+use Rattle.xd_run.specs.Proper.{IsProper}
 
 -- a run so far
 pub record Run : Type 0 where

@@ -3,4 +3,4 @@ pub mod Ends
 pub mod History
 pub mod Part
 pub mod Stands
-pub mod Told
+pub mod inner

@@ -9,8 +9,8 @@ use Rattle.xd_journal.specs.declared.entry.Entry.TheVariants.{Ready, Collected, 
 use Rattle.xd_journal.specs.declared.news.News.{News}
 use Rattle.xd_journal.specs.declared.news.What.{What}
 use Rattle.xd_journal.specs.declared.news.What.TheVariants.{LogStart, Piece, LogClosed, Gone}
-use Rattle.xd_ledger.specs.Workers.{has_member}
-use Rattle.xd_laws.specs.Stopped.{is_death_of}
+use Rattle.xd_run.specs.Workers.{has_member}
+use Rattle.xd_run_laws.specs.Stopped.{is_death_of}
 use Rattle.xd_session.specs.History.{input_of, run_of}
 
 -- the entry ends the worker: it finished, it could not collect, it went down, or it could not be started

@@ -3,12 +3,12 @@ use Rattle.std.specs.Prelude.{◌≡◌, ℕ, Bool, true, nat_le, List}
 use Rattle.xd_journal.specs.declared.settings.Settings.{Settings}
 use Rattle.xd_journal.specs.declared.entry.Entry.{Entry}
 use Rattle.xd_journal.specs.declared.news.News.{News}
-use Rattle.xd_ledger.specs.Sharing.{State}
-use Rattle.xd_ledger.specs.State.{state_at}
-use Rattle.xd_ledger.specs.Proper.{has_workers, most_workers, most_restarts}
-use Rattle.xd_ledger.specs.Meaning.{log_of}
-use Rattle.xd_run_books.specs.declared.logs.WorkerLog.{WorkerLog}
-use Rattle.xd_run_books.specs.Kept.{log_in, shortened}
+use Rattle.xd_run.specs.Sharing.{State}
+use Rattle.xd_run.specs.State.{state_at}
+use Rattle.xd_run.specs.Proper.{has_workers, most_workers, most_restarts}
+use Rattle.xd_run.specs.Meaning.{log_of}
+use Rattle.xd_session_books.specs.declared.logs.WorkerLog.{WorkerLog}
+use Rattle.xd_session_books.specs.Kept.{log_in, shortened}
 use Rattle.xd_session.specs.History.{run_of, said_by}
 
 -- what callers see of a session

@@ -2,7 +2,7 @@
 ghost use Rattle.std.specs.Prelude.{ℕ, List, []};
 ghost use Rattle.xd_journal.specs.declared.news.News.{News};
 ghost use Rattle.xd_journal.specs.declared.settings.Settings.{Settings};
-ghost use Rattle.xd_ledger.specs.Proper.{IsProper};
+ghost use Rattle.xd_run.specs.Proper.{IsProper};
 ghost use Rattle.xd_session.specs.Bounded.{IsBounded};
 ghost use Rattle.xd_session.specs.History.{IsProperRun, run_of};
 ghost use Rattle.xd_session.specs.Part.{HasPart};

@@ -1,13 +1,13 @@
 // The session.
 ghost use Rattle.std.specs.Prelude.{◌≡◌, List, ◌++◌, ◌∷◌, [], length, true, false, OnOk, OnErr, IfOk};
 ghost use Rattle.xd_journal.specs.declared.news.News.{News};
-ghost use Rattle.xd_ledger.specs.Histories.{is_over, starts_from};
-ghost use Rattle.xd_ledger.specs.Owes.{someone_owes};
-ghost use Rattle.xd_ledger.specs.State.{no_one, after_entries};
-ghost use Rattle.xd_ledger.specs.Workers.{is_active};
-ghost use Rattle.xd_run_books.specs.Books.{books_of};
-ghost use Rattle.xd_ledger.specs.Ending.{ending, may_close, stop_of};
-ghost use Rattle.xd_ledger.specs.Legal.{IsLegal};
+ghost use Rattle.xd_run.specs.Histories.{is_over, starts_from};
+ghost use Rattle.xd_run.specs.Owes.{someone_owes};
+ghost use Rattle.xd_run.specs.State.{no_one, after_entries};
+ghost use Rattle.xd_run.specs.Workers.{is_active};
+ghost use Rattle.xd_session_books.specs.Books.{books_of};
+ghost use Rattle.xd_run.specs.Ending.{ending, may_close, stop_of};
+ghost use Rattle.xd_run.specs.Legal.{IsLegal};
 ghost use Rattle.xd_session.specs.Ends.{is_out_fault, last_stop};
 ghost use Rattle.xd_session.specs.Stands.{CanBegin, StandsForNews, state_of};
 
@@ -18,8 +18,8 @@ use std::marker::Model;
 use xd_edge::OutOfMemory;
 use xd_journal::{Entry, Journal, News, Settings};
 use xd_ledger::Mode;
-use xd_rules::{RunState, end};
-use xd_run_books::{KnownPlan, Logs, RunBooks};
+use xd_session_books::{KnownPlan, Logs, RunBooks};
+use xd_session_rules::{RunState, end};
 
 /// The part of the controller that decides. It stands for the news that it took: its journal is the one that they make.
 /// Once it runs out of memory it is given up.
@@ -33,9 +33,9 @@ pub struct Session<M: Mode> {
 impl<M: Mode> Model for Session<M> {
     ghost use Rattle.std.specs.Prelude.{◌≡◌, List, true};
     ghost use Rattle.xd_session.specs.Stands.{SessionSeen};
-    ghost use Rattle.xd_run_books.specs.Books.{books_of};
-    ghost use Rattle.xd_run_books.specs.Known.{known_by};
-    ghost use Rattle.xd_rules.specs.Rules.{InStep};
+    ghost use Rattle.xd_session_books.specs.Books.{books_of};
+    ghost use Rattle.xd_session_books.specs.Known.{known_by};
+    ghost use Rattle.xd_session_rules.specs.Rules.{InStep};
 
     ghost Value = { SessionSeen };
 

@@ -3,24 +3,24 @@ ghost use Rattle.std.specs.Prelude.{◌≡◌, ◌≤◌, ◌+◌, ℕ, length, 
 ghost use Rattle.xd_journal.specs.declared.entry.Entry.TheVariants as entry;
 ghost use Rattle.xd_journal.specs.declared.news.What.TheVariants as what;
 ghost use Rattle.xd_journal.specs.Kept.{most_of_all, output_room};
-ghost use Rattle.xd_ledger.specs.Meaning.{head_bytes, kept_at_death, meaning_of, output_of};
-ghost use Rattle.xd_ledger.specs.Sharing.{State};
-ghost use Rattle.xd_ledger.specs.Workers.{has_collected, is_active, was_ready};
-ghost use Rattle.xd_run_books.specs.Books.{books_of};
-ghost use Rattle.xd_rules.specs.Joining.{IsToJoin};
-ghost use Rattle.xd_rules.specs.Judged.{judged};
-ghost use Rattle.xd_run_books.specs.Kept.{log_in, shortened};
-ghost use Rattle.xd_run_books.specs.Known.{known_by};
-ghost use Rattle.xd_rules.specs.Rules.{At};
-ghost use Rattle.xd_session.specs.Told.{Steady, Told, TookNews};
-ghost use Rattle.xd_rules.specs.declared.judge.Verdict.TheVariants.{Follows};
+ghost use Rattle.xd_run.specs.Meaning.{head_bytes, kept_at_death, meaning_of, output_of};
+ghost use Rattle.xd_run.specs.Sharing.{State};
+ghost use Rattle.xd_run.specs.Workers.{has_collected, is_active, was_ready};
+ghost use Rattle.xd_session_books.specs.Books.{books_of};
+ghost use Rattle.xd_session_rules.specs.Joining.{IsToJoin};
+ghost use Rattle.xd_session_rules.specs.Judged.{judged};
+ghost use Rattle.xd_session_books.specs.Kept.{log_in, shortened};
+ghost use Rattle.xd_session_books.specs.Known.{known_by};
+ghost use Rattle.xd_session_rules.specs.Rules.{At};
+ghost use Rattle.xd_session.specs.inner.Told.{Steady, Told, TookNews};
+ghost use Rattle.xd_session_rules.specs.declared.judge.Verdict.TheVariants.{Follows};
 
 use std::alloc::Global;
 use xd_edge::{Blob, OutOfMemory};
 use xd_journal::{Cause, Entry, MOST_OF_ALL, MOST_OF_ONE, Outcome, What};
 use xd_ledger::Mode;
-use xd_rules::{RunState, Verdict};
-use xd_run_books::Logs;
+use xd_session_books::Logs;
+use xd_session_rules::{RunState, Verdict};
 
 // What decides: the state of the run, the logs, and how many bytes the entries so far keep.
 #[derive(Drop)]

@@ -4,11 +4,11 @@ use Rattle.std.specs.Prelude.{if◌then◌else◌, ◌==◌, filter, Option, Som
 use Rattle.std.specs.List.{list_any}
 use Rattle.std.proofs.lemmas.Bool.Decides.{nat_tests}
 use Rattle.std.proofs.lemmas.List.{length-map}
-use Rattle.xd_ledger.specs.declared.seat.Seat.{Seat}
-use Rattle.xd_ledger.specs.Numbers.{among, all_among, all_distinct}
-use Rattle.xd_ledger.specs.Table.{Table, workers_of, in_rota, seat_shut, held, held_in}
-use Rattle.xd_ledger.specs.Worksteal.{idle, most, first_with}
-use Rattle.xd_ledger.specs.Turn.{enough}
+use Rattle.xd_run.specs.declared.seat.Seat.{Seat}
+use Rattle.xd_run.specs.Numbers.{among, all_among, all_distinct}
+use Rattle.xd_run.specs.Table.{Table, workers_of, in_rota, seat_shut, held, held_in}
+use Rattle.xd_run.specs.Worksteal.{idle, most, first_with}
+use Rattle.xd_run.specs.Turn.{enough}
 
 among-get : (xs : List ℕ) (k : ℕ) → k < length xs → among (get_or xs k 0) xs ≡ true
 among-get [] k h = absurd (omega arith)

@@ -4,16 +4,16 @@ use Rattle.std.specs.Prelude.{if◌then◌else◌, ◌==◌, min, Option, Some, 
 use Rattle.std.proofs.lemmas.Bool.Decides.{nat_tests}
 use Rattle.xd_journal.specs.declared.entry.Entry.{Entry}
 use Rattle.xd_journal.specs.declared.entry.Entry.TheVariants.{Steal}
-use Rattle.xd_ledger.specs.declared.seat.Seat.{Seat}
-use Rattle.xd_ledger.specs.Numbers.{all_distinct}
-use Rattle.xd_ledger.specs.Table.{Table, workers_of, held, in_rota}
-use Rattle.xd_ledger.specs.Plan.{Plan}
+use Rattle.xd_run.specs.declared.seat.Seat.{Seat}
+use Rattle.xd_run.specs.Numbers.{all_distinct}
+use Rattle.xd_run.specs.Table.{Table, workers_of, held, in_rota}
+use Rattle.xd_run.specs.Plan.{Plan}
 use Rattle.xd_ledger.specs.Calls.{turn, Turned}
-use Rattle.xd_ledger.specs.Modes.{turned}
-use Rattle.xd_ledger.specs.Modes.ModeCall.{Share}
-use Rattle.xd_ledger.specs.Turn.{Turn, give_front, shut, shut_each}
-use Rattle.xd_ledger.specs.Worksteal.{kept_part, idle, most, open_seats, dealt, victim, steal_count, asks, asks_or_shuts, after_dealing, rule}
-use Rattle.xd_ledger.specs.Turn.{enough}
+use Rattle.xd_run.specs.Modes.{turned}
+use Rattle.xd_run.specs.Modes.ModeCall.{Share}
+use Rattle.xd_run.specs.Turn.{Turn, give_front, shut, shut_each}
+use Rattle.xd_run.specs.Worksteal.{kept_part, idle, most, open_seats, dealt, victim, steal_count, asks, asks_or_shuts, after_dealing, rule}
+use Rattle.xd_run.specs.Turn.{enough}
 use Rattle.xd_steal.specs.Stands.{StandsForSteal, MatchesTurn}
 use Rattle.xd_steal.proofs.Rota.{first_is}
 

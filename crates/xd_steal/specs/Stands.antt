@@ -2,9 +2,9 @@
 use Rattle.std.specs.Prelude.{◌≡◌, ℕ, List, Option, option_map}
 use Rattle.xd_edge.specs.declared.mode.ModeKind.TheVariants.{WorkSteal}
 use Rattle.xd_journal.specs.declared.entry.Entry.{Entry}
-use Rattle.xd_ledger.specs.Plan.{Plan}
-use Rattle.xd_ledger.specs.Table.{Table}
-use Rattle.xd_ledger.specs.Turn.{Turn}
+use Rattle.xd_run.specs.Plan.{Plan}
+use Rattle.xd_run.specs.Table.{Table}
+use Rattle.xd_run.specs.Turn.{Turn}
 
 -- it keeps which worker has not answered its steal
 -- Example: after the death of the worker that was asked, a mode that still keeps it stands for no plan of the run.

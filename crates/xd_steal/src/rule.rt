@@ -2,11 +2,11 @@
 ghost use Rattle.std.specs.Prelude.{◌≡◌, ◌≤◌, ◌-◌, ◌/◌, ◌++◌, ◌∷◌, [], true, length, min, OnOk, Some};
 ghost use Rattle.xd_journal.specs.declared.entry.Entry.TheVariants.{Steal};
 ghost use Rattle.xd_ledger.specs.Calls.{last_of, turn};
-ghost use Rattle.xd_ledger.specs.Numbers.{all_among, all_distinct};
-ghost use Rattle.xd_ledger.specs.Plan.{Plan};
-ghost use Rattle.xd_ledger.specs.Table.{held, in_rota, workers_of};
-ghost use Rattle.xd_ledger.specs.Worksteal.{kept_part, dealt, victim, asks_or_shuts, after_dealing, rule};
-ghost use Rattle.xd_ledger.specs.Turn.{enough, shut_each};
+ghost use Rattle.xd_run.specs.Numbers.{all_among, all_distinct};
+ghost use Rattle.xd_run.specs.Plan.{Plan};
+ghost use Rattle.xd_run.specs.Table.{held, in_rota, workers_of};
+ghost use Rattle.xd_run.specs.Worksteal.{kept_part, dealt, victim, asks_or_shuts, after_dealing, rule};
+ghost use Rattle.xd_run.specs.Turn.{enough, shut_each};
 ghost use Rattle.xd_steal.specs.Stands.{MatchesTurn, StandsForSteal};
 
 use crate::workers::{idle, victim};

@@ -1,8 +1,8 @@
 // The mode.
 ghost use Rattle.std.specs.Prelude.{◌≡◌, None, Option, option_map};
 ghost use Rattle.xd_edge.specs.declared.mode.ModeKind.TheVariants.{WorkSteal};
-ghost use Rattle.xd_ledger.specs.Plan.{UnansweredSteal, Plan};
-ghost use Rattle.xd_ledger.specs.Deaths.{steal_without};
+ghost use Rattle.xd_run.specs.Plan.{UnansweredSteal, Plan};
+ghost use Rattle.xd_run.specs.Deaths.{steal_without};
 ghost use Rattle.xd_steal.specs.Stands.{StandsForSteal};
 
 use crate::rule::rule;

@@ -1,9 +1,9 @@
 // Which workers are idle, and which is asked for tests.
 ghost use Rattle.std.specs.Prelude.{◌≡◌, true, not, ◌&&◌, ◌==◌, nat_lt, length, IfOk, option_map, if◌then◌else◌};
-ghost use Rattle.xd_ledger.specs.Numbers.{all_distinct};
-ghost use Rattle.xd_ledger.specs.Table.{held, in_rota, seat_shut, workers_of};
-ghost use Rattle.xd_ledger.specs.Worksteal.{idle, open_seats, most, victim};
-ghost use Rattle.xd_ledger.specs.Turn.{enough};
+ghost use Rattle.xd_run.specs.Numbers.{all_distinct};
+ghost use Rattle.xd_run.specs.Table.{held, in_rota, seat_shut, workers_of};
+ghost use Rattle.xd_run.specs.Worksteal.{idle, open_seats, most, victim};
+ghost use Rattle.xd_run.specs.Turn.{enough};
 
 use std::alloc::Global;
 use xd_edge::{Indices, OutOfMemory};

@@ -10,16 +10,16 @@ use Rattle.xd_journal.specs.declared.entry.Ids.{Ids}
 use Rattle.xd_journal.specs.declared.entry.Ids.TheVariants as ids
 use Rattle.xd_journal.specs.declared.news.What.{What}
 use Rattle.xd_journal.specs.declared.news.What.TheVariants as what
-use Rattle.xd_ledger.specs.declared.member.Listed.{Listed}
-use Rattle.xd_ledger.specs.Collections.{differ_at, listed}
-use Rattle.xd_ledger.specs.Meaning.{Log, given_ids, log_of, meaning_of, or_breach, output_of}
-use Rattle.xd_ledger.specs.Numbers.{all_among, among, first_of}
-use Rattle.xd_ledger.specs.Plan.{Plan, UnansweredSteal, items_named}
-use Rattle.xd_ledger.specs.Proper.{are_ids, is_head, may_follow, may_give_back, names_head}
-use Rattle.xd_ledger.specs.Sharing.{State}
-use Rattle.xd_ledger.specs.Table.{held}
-use Rattle.xd_ledger.specs.Workers.{has_collected, is_active, slot_of, was_ready}
-use Rattle.xd_laws.proofs.Logic.{and, cases_of, differ, split-and}
+use Rattle.xd_run.specs.declared.member.Listed.{Listed}
+use Rattle.xd_run.specs.Collections.{differ_at, listed}
+use Rattle.xd_run.specs.Meaning.{Log, given_ids, log_of, meaning_of, or_breach, output_of}
+use Rattle.xd_run.specs.Numbers.{all_among, among, first_of}
+use Rattle.xd_run.specs.Plan.{Plan, UnansweredSteal, items_named}
+use Rattle.xd_run.specs.Proper.{are_ids, is_head, may_follow, may_give_back, names_head}
+use Rattle.xd_run.specs.Sharing.{State}
+use Rattle.xd_run.specs.Table.{held}
+use Rattle.xd_run.specs.Workers.{has_collected, is_active, slot_of, was_ready}
+use Rattle.xd_run_laws.proofs.Logic.{and, cases_of, differ, split-and}
 use Rattle.xd_system.specs.LineGiven.{line_given, is_answer, steals_asked}
 use Rattle.xd_system.specs.Fits.{AnswersSteal, FitsNext, holds, is_collected}
 use Rattle.xd_system.specs.Own.{answers_by, answers_in, ends_by, ends_in, is_breach_of, told_to}

@@ -15,20 +15,20 @@ use Rattle.xd_journal.specs.declared.news.News.{News}
 use Rattle.xd_journal.specs.declared.news.What.{What}
 use Rattle.xd_journal.specs.declared.news.What.TheVariants as what
 use Rattle.xd_journal.specs.Said.{is_breach}
-use Rattle.xd_gateway.specs.declared.order.Order.{Order}
-use Rattle.xd_ledger.specs.Meaning.{breach, kept_at_death, log_of, meaning_of, spent_by}
-use Rattle.xd_ledger.specs.Numbers.{all_among, first_of}
-use Rattle.xd_ledger.specs.Plan.{UnansweredSteal}
-use Rattle.xd_ledger.specs.Outputs.{outputs}
-use Rattle.xd_ledger.specs.Proper.{IsProper, may_follow}
-use Rattle.xd_ledger.specs.Sharing.{State}
-use Rattle.xd_ledger.specs.State.{after_effect}
-use Rattle.xd_ledger.specs.Table.{in_rota}
-use Rattle.xd_ledger.specs.Workers.{is_active, made_gone, slot_of, was_ready}
-use Rattle.xd_laws.proofs.Laws.{lawful}
-use Rattle.xd_laws.proofs.Logic.{and, cases_of, differ, or-false}
-use Rattle.xd_laws.proofs.Members.{has, has-cleared, has-member, has-same}
-use Rattle.xd_laws.proofs.Turns.{Tidy}
+use Rattle.xd_commands.specs.declared.order.Order.{Order}
+use Rattle.xd_run.specs.Meaning.{breach, kept_at_death, log_of, meaning_of, spent_by}
+use Rattle.xd_run.specs.Numbers.{all_among, first_of}
+use Rattle.xd_run.specs.Plan.{UnansweredSteal}
+use Rattle.xd_run.specs.Outputs.{outputs}
+use Rattle.xd_run.specs.Proper.{IsProper, may_follow}
+use Rattle.xd_run.specs.Sharing.{State}
+use Rattle.xd_run.specs.State.{after_effect}
+use Rattle.xd_run.specs.Table.{in_rota}
+use Rattle.xd_run.specs.Workers.{is_active, made_gone, slot_of, was_ready}
+use Rattle.xd_run_laws.proofs.Laws.{lawful}
+use Rattle.xd_run_laws.proofs.Logic.{and, cases_of, differ, or-false}
+use Rattle.xd_run_laws.proofs.Members.{has, has-cleared, has-member, has-same}
+use Rattle.xd_run_laws.proofs.Turns.{Tidy}
 use Rattle.xd_session.specs.History.{IsProperRun, Run as SoFar, after_news, begun_run, input_of, run_of, said_by}
 use Rattle.xd_session.proofs.Steps.{run-more, run-taken, sound-run}
 use Rattle.xd_system.specs.LineGiven.{are_fair, steals_asked}

@@ -4,12 +4,12 @@ use Rattle.std.proofs.Common.{◌≡◌, ℕ, zero, suc, ◌+◌, ◌≤◌, Lis
 use Rattle.std.specs.Prelude.{◌⊎◌, nat_lt}
 use Rattle.std.specs.List.{list_all, range_with_len}
 use Rattle.std.proofs.lemmas.Bool.Decides.{nat_tests}
-use Rattle.xd_gateway.specs.declared.order.Order.{Order}
-use Rattle.xd_gateway.specs.declared.order.Order.TheVariants.{RunTests, RunAll, Steal, Shutdown}
-use Rattle.xd_ledger.specs.Numbers.{among, without, all_distinct}
-use Rattle.xd_laws.proofs.Counts.{among-filter}
-use Rattle.xd_laws.proofs.Logic.{and, cases_of, differ, split-and}
-use Rattle.xd_ledger.specs.Orderly.{is_in_order}
+use Rattle.xd_commands.specs.declared.order.Order.{Order}
+use Rattle.xd_commands.specs.declared.order.Order.TheVariants.{RunTests, RunAll, Steal, Shutdown}
+use Rattle.xd_run.specs.Numbers.{among, without, all_distinct}
+use Rattle.xd_run_laws.proofs.Counts.{among-filter}
+use Rattle.xd_run_laws.proofs.Logic.{and, cases_of, differ, split-and}
+use Rattle.xd_run.specs.Orderly.{is_in_order}
 use Rattle.xd_system.specs.LineGiven.{answers_left, are_fair, are_new, line_given, first_answer, is_answer, line_after, marks_last, may_be_told, steals_asked}
 use Rattle.xd_system.specs.Moment.{IsFirstPart}
 use Rattle.xd_system.proofs.Call.{MayTake}

@@ -8,17 +8,17 @@ use Rattle.std.proofs.lemmas.List.Elements.{filter_map-append, filter-append}
 use Rattle.std.proofs.lemmas.Slice.Eq.{bytes_eq-Decides}
 use Rattle.xd_journal.specs.declared.entry.Entry.{Entry}
 use Rattle.xd_journal.specs.declared.entry.Entry.TheVariants.{Steal}
-use Rattle.xd_gateway.specs.declared.order.Order.{Order}
-use Rattle.xd_gateway.specs.declared.order.Order.TheVariants as order
-use Rattle.xd_ledger.specs.Numbers.{all_among, all_distinct, among, without}
-use Rattle.xd_ledger.specs.Orderly.{is_in_order, is_orderly, may_run, not_empty}
-use Rattle.xd_ledger.specs.Plan.{UnansweredSteal, items_named}
-use Rattle.xd_ledger.specs.Sharing.{State}
-use Rattle.xd_ledger.specs.State.{after_effect}
-use Rattle.xd_ledger.specs.Table.{held, in_rota}
-use Rattle.xd_ledger.specs.Workers.{is_shut, slot_of}
-use Rattle.xd_laws.proofs.Counts.{among-filter}
-use Rattle.xd_laws.proofs.Logic.{and, cases_of, differ, split-and}
+use Rattle.xd_commands.specs.declared.order.Order.{Order}
+use Rattle.xd_commands.specs.declared.order.Order.TheVariants as order
+use Rattle.xd_run.specs.Numbers.{all_among, all_distinct, among, without}
+use Rattle.xd_run.specs.Orderly.{is_in_order, is_orderly, may_run, not_empty}
+use Rattle.xd_run.specs.Plan.{UnansweredSteal, items_named}
+use Rattle.xd_run.specs.Sharing.{State}
+use Rattle.xd_run.specs.State.{after_effect}
+use Rattle.xd_run.specs.Table.{held, in_rota}
+use Rattle.xd_run.specs.Workers.{is_shut, slot_of}
+use Rattle.xd_run_laws.proofs.Counts.{among-filter}
+use Rattle.xd_run_laws.proofs.Logic.{and, cases_of, differ, split-and}
 use Rattle.xd_system.specs.LineGiven.{are_fair, line_given, first_answer, is_answer, is_shutdown, marks_last, may_be_told, steals_asked}
 use Rattle.xd_system.specs.Own.{answer_in, answers_by, ends_by, test_ended_in, order_told, told_to}
 use Rattle.xd_system.proofs.Deal.{Deal, asked_of, line_at, size_at}

@@ -4,12 +4,12 @@ use Rattle.std.specs.Prelude.{nat_lt, filter}
 use Rattle.std.specs.List.{list_all, range_with_len}
 use Rattle.std.proofs.lemmas.Bool.Decides.{nat_tests}
 use Rattle.std.proofs.lemmas.Slice.Eq.{bytes_eq-Decides}
-use Rattle.xd_gateway.specs.declared.order.Order.{Order}
-use Rattle.xd_gateway.specs.declared.order.Order.TheVariants.{RunTests, RunAll, Steal, Shutdown}
-use Rattle.xd_ledger.specs.Numbers.{among, without, all_distinct}
-use Rattle.xd_laws.proofs.Counts.{among-filter}
-use Rattle.xd_laws.proofs.Logic.{and, cases_of, differ, split-and}
-use Rattle.xd_ledger.specs.Orderly.{is_in_order}
+use Rattle.xd_commands.specs.declared.order.Order.{Order}
+use Rattle.xd_commands.specs.declared.order.Order.TheVariants.{RunTests, RunAll, Steal, Shutdown}
+use Rattle.xd_run.specs.Numbers.{among, without, all_distinct}
+use Rattle.xd_run_laws.proofs.Counts.{among-filter}
+use Rattle.xd_run_laws.proofs.Logic.{and, cases_of, differ, split-and}
+use Rattle.xd_run.specs.Orderly.{is_in_order}
 use Rattle.xd_system.specs.LineGiven.{all_given, are_fair, are_new, line_given, is_answer, steals_asked}
 use Rattle.xd_system.proofs.Allowed.{Within, new-within, within-append, within-less}
 use Rattle.xd_system.proofs.Lines.{dealt-unanswered, without-none}

@@ -5,8 +5,8 @@ use Rattle.std.proofs.lemmas.Grind.{fold-append}
 use Rattle.xd_journal.specs.declared.news.News.{News}
 use Rattle.xd_journal.specs.declared.news.What.{What}
 use Rattle.xd_journal.specs.declared.settings.Settings.{Settings}
-use Rattle.xd_ledger.specs.Proper.{IsProper}
-use Rattle.xd_ledger.specs.Workers.{has_member}
+use Rattle.xd_run.specs.Proper.{IsProper}
+use Rattle.xd_run.specs.Workers.{has_member}
 use Rattle.xd_session.specs.History.{Run as SoFar, after_news, begun_run, run_of, said_by}
 use Rattle.xd_session.proofs.Steps.{sound-run}
 use Rattle.xd_system.specs.Moment.{AfterStart}

@@ -3,16 +3,16 @@ use Rattle.std.specs.Prelude.{◌≡◌, ◌⊎◌, ◌<◌, ℕ, nat_lt, Bool, 
 use Rattle.std.specs.List.{list_all, list_any, range_with_len}
 use Rattle.xd_journal.specs.declared.news.What.{What}
 use Rattle.xd_journal.specs.declared.news.What.TheVariants as what
-use Rattle.xd_gateway.specs.declared.order.Order.{Order}
-use Rattle.xd_gateway.specs.declared.order.Order.TheVariants.{RunTests, RunAll, Steal, Shutdown}
-use Rattle.xd_ledger.specs.Meaning.{Log, any_open, is_of, log_of, number_of}
-use Rattle.xd_ledger.specs.Numbers.{all_distinct, among}
-use Rattle.xd_run_tests.specs.declared.line_entry.LineEntry.{LineEntry}
-use Rattle.xd_run_tests.specs.declared.line_entry.LineEntry.TheVariants.{Test, Mark}
-use Rattle.xd_run_tests.specs.declared.phase.Phase.TheVariants.{Serving, Over}
-use Rattle.xd_run_tests.specs.Line.{FunctionCall, head_test, left, number_of_log, tests_in_line}
-use Rattle.xd_run_tests.specs.Turns.{CallTurn}
-use Rattle.xd_ledger.specs.Orderly.{is_in_order}
+use Rattle.xd_commands.specs.declared.order.Order.{Order}
+use Rattle.xd_commands.specs.declared.order.Order.TheVariants.{RunTests, RunAll, Steal, Shutdown}
+use Rattle.xd_run.specs.Meaning.{Log, any_open, is_of, log_of, number_of}
+use Rattle.xd_run.specs.Numbers.{all_distinct, among}
+use Rattle.xd_worker_tests.specs.declared.line_entry.LineEntry.{LineEntry}
+use Rattle.xd_worker_tests.specs.declared.line_entry.LineEntry.TheVariants.{Test, Mark}
+use Rattle.xd_worker_tests.specs.declared.phase.Phase.TheVariants.{Serving, Over}
+use Rattle.xd_worker_tests.specs.Line.{FunctionCall, head_test, left, number_of_log, tests_in_line}
+use Rattle.xd_worker_tests.specs.Turns.{CallTurn}
+use Rattle.xd_run.specs.Orderly.{is_in_order}
 use Rattle.xd_system.specs.LineGiven.{are_new, line_given, is_shutdown, marks_last, steals_asked}
 use Rattle.xd_system.specs.Fits.{FitsNext, is_collected}
 use Rattle.xd_system.specs.Moment.{IsFirstPart}

@@ -8,20 +8,20 @@ use Rattle.std.proofs.lemmas.List.Elements.{filter_map-append}
 use Rattle.xd_journal.specs.declared.entry.Outcome.{Outcome}
 use Rattle.xd_journal.specs.declared.entry.Entry.{Entry}
 use Rattle.xd_journal.specs.declared.entry.Entry.TheVariants.{Done}
-use Rattle.xd_ledger.specs.declared.seat.Seat.{Seat}
-use Rattle.xd_ledger.specs.Numbers.{all_among, all_distinct, without}
-use Rattle.xd_ledger.specs.Plan.{items_named}
-use Rattle.xd_ledger.specs.Proper.{is_head, may_follow, names_head}
-use Rattle.xd_ledger.specs.Results.{completed_first}
-use Rattle.xd_ledger.specs.Sharing.{State}
-use Rattle.xd_ledger.specs.State.{after_effect}
-use Rattle.xd_ledger.specs.Table.{Table, at_seat, completed, held, held_in, in_rota}
-use Rattle.xd_ledger.specs.Workers.{is_active, slot_of}
-use Rattle.xd_laws.proofs.Counts.{distinct-of_times, all_among-append}
-use Rattle.xd_laws.proofs.Logic.{differ, or-false, split-and}
-use Rattle.xd_laws.proofs.Placed.{Placed, at_most_once}
-use Rattle.xd_laws.proofs.Places.{held-within, times-table}
-use Rattle.xd_laws.proofs.Rota.{seat-change}
+use Rattle.xd_run.specs.declared.seat.Seat.{Seat}
+use Rattle.xd_run.specs.Numbers.{all_among, all_distinct, without}
+use Rattle.xd_run.specs.Plan.{items_named}
+use Rattle.xd_run.specs.Proper.{is_head, may_follow, names_head}
+use Rattle.xd_run.specs.Results.{completed_first}
+use Rattle.xd_run.specs.Sharing.{State}
+use Rattle.xd_run.specs.State.{after_effect}
+use Rattle.xd_run.specs.Table.{Table, at_seat, completed, held, held_in, in_rota}
+use Rattle.xd_run.specs.Workers.{is_active, slot_of}
+use Rattle.xd_run_laws.proofs.Counts.{distinct-of_times, all_among-append}
+use Rattle.xd_run_laws.proofs.Logic.{differ, or-false, split-and}
+use Rattle.xd_run_laws.proofs.Placed.{Placed, at_most_once}
+use Rattle.xd_run_laws.proofs.Places.{held-within, times-table}
+use Rattle.xd_run_laws.proofs.Rota.{seat-change}
 use Rattle.xd_system.specs.Own.{answer_in, answers_by, ends_by, test_ended_in, order_told, told_to}
 use Rattle.xd_system.proofs.Deal.{Deal, line_at}
 use Rattle.xd_system.proofs.Lists.{drop-next, take-next, all-last, itself-last, without-first}

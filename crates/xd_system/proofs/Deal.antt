@@ -2,12 +2,12 @@
 use Rattle.std.specs.Prelude.{◌≡◌, ◌≤◌, ◌==◌, ℕ, Bool, true, false, List, [], ◌∷◌, drop, length, take, slice_index, Option, Some, None, if◌then◌else◌}
 use Rattle.std.specs.List.{list_any, list_all}
 use Rattle.xd_journal.specs.declared.entry.Entry.{Entry}
-use Rattle.xd_gateway.specs.declared.order.Order.{Order}
-use Rattle.xd_ledger.specs.Numbers.{all_among}
-use Rattle.xd_ledger.specs.Plan.{UnansweredSteal, is_each, items_named, total}
-use Rattle.xd_ledger.specs.Sharing.{State}
-use Rattle.xd_ledger.specs.Table.{held, in_rota}
-use Rattle.xd_ledger.specs.Workers.{has_member, is_active, is_shut, slot_of}
+use Rattle.xd_commands.specs.declared.order.Order.{Order}
+use Rattle.xd_run.specs.Numbers.{all_among}
+use Rattle.xd_run.specs.Plan.{UnansweredSteal, is_each, items_named, total}
+use Rattle.xd_run.specs.Sharing.{State}
+use Rattle.xd_run.specs.Table.{held, in_rota}
+use Rattle.xd_run.specs.Workers.{has_member, is_active, is_shut, slot_of}
 use Rattle.xd_system.specs.LineGiven.{are_fair, line_given, is_shutdown, marks_last, steals_asked}
 use Rattle.xd_system.specs.Own.{answers_by, ends_by, told_to}
 

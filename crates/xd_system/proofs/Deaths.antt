@@ -13,22 +13,22 @@ use Rattle.xd_journal.specs.declared.news.News.{News}
 use Rattle.xd_journal.specs.declared.news.What.{What}
 use Rattle.xd_journal.specs.declared.news.What.TheVariants as what
 use Rattle.xd_journal.specs.declared.settings.Settings.{Settings}
-use Rattle.xd_ledger.specs.declared.seat.Seat.{Seat}
-use Rattle.xd_ledger.specs.Histories.{starts_from}
-use Rattle.xd_ledger.specs.Numbers.{among, first_of, times}
-use Rattle.xd_ledger.specs.Proper.{IsProper}
-use Rattle.xd_ledger.specs.Sharing.{State}
-use Rattle.xd_ledger.specs.State.{after_entries, no_one, settled, state_at}
-use Rattle.xd_ledger.specs.Table.{held, held_by_all, held_in}
-use Rattle.xd_ledger.specs.Workers.{is_active}
-use Rattle.xd_laws.proofs.Counts.{among-times, times-append}
-use Rattle.xd_laws.proofs.Crashes.{death-of}
-use Rattle.xd_laws.proofs.Laws.{lawful}
-use Rattle.xd_laws.proofs.Logic.{cases_of, differ}
-use Rattle.xd_laws.proofs.Placed.{Placed, at_most_once}
-use Rattle.xd_laws.proofs.Places.{held-within, times-table}
-use Rattle.xd_laws.proofs.Walk.{AllCome}
-use Rattle.xd_run_tests.proofs.Starts.{starts_once}
+use Rattle.xd_run.specs.declared.seat.Seat.{Seat}
+use Rattle.xd_run.specs.Histories.{starts_from}
+use Rattle.xd_run.specs.Numbers.{among, first_of, times}
+use Rattle.xd_run.specs.Proper.{IsProper}
+use Rattle.xd_run.specs.Sharing.{State}
+use Rattle.xd_run.specs.State.{after_entries, no_one, settled, state_at}
+use Rattle.xd_run.specs.Table.{held, held_by_all, held_in}
+use Rattle.xd_run.specs.Workers.{is_active}
+use Rattle.xd_run_laws.proofs.Counts.{among-times, times-append}
+use Rattle.xd_run_laws.proofs.Crashes.{death-of}
+use Rattle.xd_run_laws.proofs.Laws.{lawful}
+use Rattle.xd_run_laws.proofs.Logic.{cases_of, differ}
+use Rattle.xd_run_laws.proofs.Placed.{Placed, at_most_once}
+use Rattle.xd_run_laws.proofs.Places.{held-within, times-table}
+use Rattle.xd_run_laws.proofs.Walk.{AllCome}
+use Rattle.xd_worker_tests.proofs.Starts.{starts_once}
 use Rattle.xd_session.specs.History.{Run as SoFar, begun_run, input_of, run_of, said_by}
 use Rattle.xd_session.proofs.Steps.{run-more, run-taken, sound-run}
 use Rattle.xd_system.specs.Deaths.{CrashesAlone, HonestReports, ReportsWhatRan}

@@ -7,18 +7,18 @@ use Rattle.xd_journal.specs.Kept.{most_of_one}
 use Rattle.xd_journal.specs.declared.entry.Outcome.{Outcome}
 use Rattle.xd_journal.specs.declared.news.What.{What}
 use Rattle.xd_journal.specs.declared.news.What.TheVariants as what
-use Rattle.xd_gateway.specs.declared.order.Order.{Order}
-use Rattle.xd_run_tests.specs.declared.ask.Ask.{Ask}
-use Rattle.xd_run_tests.specs.declared.ask.Ask.TheVariants.{CloseLog, Tell}
-use Rattle.xd_run_tests.specs.declared.input.Input.{Input}
-use Rattle.xd_run_tests.specs.declared.input.Input.TheVariants as input
-use Rattle.xd_run_tests.specs.declared.line_entry.LineEntry.TheVariants.{Test}
-use Rattle.xd_run_tests.specs.declared.phase.Phase.TheVariants.{Serving}
-use Rattle.xd_run_tests.specs.History.{Given, call_after, started_tests}
-use Rattle.xd_run_tests.specs.Line.{number_of_log, tests_in_line}
-use Rattle.xd_run_tests.specs.Turns.{CallTurn, answered_in, line_settled, piece_asks, told, told_done}
-use Rattle.xd_run_tests.proofs.Starts.{started_first}
-use Rattle.xd_laws.proofs.Logic.{differ}
+use Rattle.xd_commands.specs.declared.order.Order.{Order}
+use Rattle.xd_worker_tests.specs.declared.ask.Ask.{Ask}
+use Rattle.xd_worker_tests.specs.declared.ask.Ask.TheVariants.{CloseLog, Tell}
+use Rattle.xd_worker_tests.specs.declared.input.Input.{Input}
+use Rattle.xd_worker_tests.specs.declared.input.Input.TheVariants as input
+use Rattle.xd_worker_tests.specs.declared.line_entry.LineEntry.TheVariants.{Test}
+use Rattle.xd_worker_tests.specs.declared.phase.Phase.TheVariants.{Serving}
+use Rattle.xd_worker_tests.specs.History.{Given, call_after, started_tests}
+use Rattle.xd_worker_tests.specs.Line.{number_of_log, tests_in_line}
+use Rattle.xd_worker_tests.specs.Turns.{CallTurn, answered_in, line_settled, piece_asks, told, told_done}
+use Rattle.xd_worker_tests.proofs.Starts.{started_first}
+use Rattle.xd_run_laws.proofs.Logic.{differ}
 use Rattle.xd_system.specs.Own.{outcome_of_news, outcomes_in, ends_in}
 use Rattle.xd_system.specs.Tells.{comes_in_run, news_of_asks, tells, outcome_at_end}
 use Rattle.xd_system.proofs.Told.{asks-append}

@@ -14,14 +14,14 @@ use Rattle.xd_journal.specs.declared.entry.Ids.TheVariants as ids
 use Rattle.xd_journal.specs.declared.entry.Outcome.{Outcome}
 use Rattle.xd_journal.specs.declared.news.What.{What}
 use Rattle.xd_journal.specs.declared.news.What.TheVariants as what
-use Rattle.xd_ledger.specs.declared.member.Listed.{Listed}
-use Rattle.xd_ledger.specs.Collections.{differ_at, listed}
-use Rattle.xd_ledger.specs.Meaning.{Log, any_open, breach, is_of, is_open_log, kept_at_death, may_start_log, meaning_of, or_breach, output_of, silent_or_breach}
-use Rattle.xd_ledger.specs.Orderly.{all_orderly, is_orderly}
-use Rattle.xd_ledger.specs.Proper.{may_follow, names_head}
-use Rattle.xd_ledger.specs.Sharing.{State}
-use Rattle.xd_ledger.specs.State.{after_effect}
-use Rattle.xd_laws.proofs.Logic.{differ, in_both, split-and}
+use Rattle.xd_run.specs.declared.member.Listed.{Listed}
+use Rattle.xd_run.specs.Collections.{differ_at, listed}
+use Rattle.xd_run.specs.Meaning.{Log, any_open, breach, is_of, is_open_log, kept_at_death, may_start_log, meaning_of, or_breach, output_of, silent_or_breach}
+use Rattle.xd_run.specs.Orderly.{all_orderly, is_orderly}
+use Rattle.xd_run.specs.Proper.{may_follow, names_head}
+use Rattle.xd_run.specs.Sharing.{State}
+use Rattle.xd_run.specs.State.{after_effect}
+use Rattle.xd_run_laws.proofs.Logic.{differ, in_both, split-and}
 use Rattle.xd_system.specs.Fits.{is_collected}
 use Rattle.xd_system.specs.Own.{answer_in, answer_of_news, answers_by, answers_in, outcome_in, outcome_of_news, outcomes_by, outcomes_in, ends_by, test_ended_in, ends_in, end_of_news, is_accused, is_breach_of}
 use Rattle.xd_system.proofs.Marks.{is_collected_of, is_ready_of}

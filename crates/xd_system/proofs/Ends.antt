@@ -8,16 +8,16 @@ use Rattle.xd_edge.specs.Limits.{most_tests}
 use Rattle.xd_journal.specs.declared.entry.Outcome.{Outcome}
 use Rattle.xd_journal.specs.declared.news.What.{What}
 use Rattle.xd_journal.specs.declared.news.What.TheVariants as what
-use Rattle.xd_gateway.specs.declared.order.Order.{Order}
-use Rattle.xd_ledger.specs.Meaning.{Log, any_open, is_of, is_open_log, log_of, number_of, with_news}
-use Rattle.xd_ledger.specs.Numbers.{among, all_distinct, first_of}
-use Rattle.xd_run_tests.specs.declared.ask.Ask.{Ask}
-use Rattle.xd_run_tests.specs.declared.ask.Ask.TheVariants.{CloseLog, Piece, Tell}
-use Rattle.xd_run_tests.specs.declared.line_entry.LineEntry.{LineEntry}
-use Rattle.xd_run_tests.specs.declared.line_entry.LineEntry.TheVariants.{Test, Mark}
-use Rattle.xd_run_tests.specs.Line.{FunctionCall, head_test, left, number_of_log, running_test}
-use Rattle.xd_run_tests.specs.Turns.{CallTurn, line_settled, piece_asks, put_out, told_done, without_run}
-use Rattle.xd_laws.proofs.Logic.{differ}
+use Rattle.xd_commands.specs.declared.order.Order.{Order}
+use Rattle.xd_run.specs.Meaning.{Log, any_open, is_of, is_open_log, log_of, number_of, with_news}
+use Rattle.xd_run.specs.Numbers.{among, all_distinct, first_of}
+use Rattle.xd_worker_tests.specs.declared.ask.Ask.{Ask}
+use Rattle.xd_worker_tests.specs.declared.ask.Ask.TheVariants.{CloseLog, Piece, Tell}
+use Rattle.xd_worker_tests.specs.declared.line_entry.LineEntry.{LineEntry}
+use Rattle.xd_worker_tests.specs.declared.line_entry.LineEntry.TheVariants.{Test, Mark}
+use Rattle.xd_worker_tests.specs.Line.{FunctionCall, head_test, left, number_of_log, running_test}
+use Rattle.xd_worker_tests.specs.Turns.{CallTurn, line_settled, piece_asks, put_out, told_done, without_run}
+use Rattle.xd_run_laws.proofs.Logic.{differ}
 use Rattle.xd_system.specs.LineGiven.{all_given, line_given, is_shutdown}
 use Rattle.xd_system.specs.Fits.{EndsHead, is_collected}
 use Rattle.xd_system.specs.Moment.{IsFirstPart}

@@ -9,15 +9,15 @@ use Rattle.xd_journal.specs.declared.entry.Entry.TheVariants.{Ready, Collected, 
 use Rattle.xd_journal.specs.declared.entry.Ids.TheVariants as ids
 use Rattle.xd_journal.specs.declared.news.What.{What}
 use Rattle.xd_journal.specs.declared.news.What.TheVariants as what
-use Rattle.xd_ledger.specs.declared.member.Listed.{Listed}
-use Rattle.xd_ledger.specs.Collections.{differ_at, listed}
-use Rattle.xd_ledger.specs.Meaning.{Log, any_open, breach, is_of, is_open_log, may_start_log, meaning_of, or_breach, output_of}
-use Rattle.xd_ledger.specs.Orderly.{all_orderly, is_orderly}
-use Rattle.xd_ledger.specs.Proper.{may_follow, names_head}
-use Rattle.xd_ledger.specs.Sharing.{State}
-use Rattle.xd_ledger.specs.State.{after_effect}
-use Rattle.xd_laws.specs.Stopped.{is_death}
-use Rattle.xd_laws.proofs.Logic.{differ, in_both, split-and}
+use Rattle.xd_run.specs.declared.member.Listed.{Listed}
+use Rattle.xd_run.specs.Collections.{differ_at, listed}
+use Rattle.xd_run.specs.Meaning.{Log, any_open, breach, is_of, is_open_log, may_start_log, meaning_of, or_breach, output_of}
+use Rattle.xd_run.specs.Orderly.{all_orderly, is_orderly}
+use Rattle.xd_run.specs.Proper.{may_follow, names_head}
+use Rattle.xd_run.specs.Sharing.{State}
+use Rattle.xd_run.specs.State.{after_effect}
+use Rattle.xd_run_laws.specs.Stopped.{is_death}
+use Rattle.xd_run_laws.proofs.Logic.{differ, in_both, split-and}
 use Rattle.xd_system.proofs.Acts.{is_end_of, is_refusal}
 use Rattle.xd_system.proofs.Call.{is_last_told}
 use Rattle.xd_system.proofs.Echo.{entry_of, meaning-elim}

@@ -3,11 +3,11 @@ use Rattle.std.proofs.Common.{◌≡◌, ℕ, List, [], ◌∷◌, ◌++◌, len
 use Rattle.std.specs.Prelude.{Some, None}
 use Rattle.xd_journal.specs.declared.news.What.{What}
 use Rattle.xd_journal.specs.declared.news.What.TheVariants as what
-use Rattle.xd_gateway.specs.declared.order.Order.{Order}
-use Rattle.xd_run_tests.specs.declared.ask.Ask.TheVariants.{Tell}
-use Rattle.xd_run_tests.specs.Line.{FunctionCall}
-use Rattle.xd_run_tests.specs.Turns.{CallTurn, serving_suite}
-use Rattle.xd_laws.proofs.Logic.{differ}
+use Rattle.xd_commands.specs.declared.order.Order.{Order}
+use Rattle.xd_worker_tests.specs.declared.ask.Ask.TheVariants.{Tell}
+use Rattle.xd_worker_tests.specs.Line.{FunctionCall}
+use Rattle.xd_worker_tests.specs.Turns.{CallTurn, serving_suite}
+use Rattle.xd_run_laws.proofs.Logic.{differ}
 use Rattle.xd_system.specs.Tells.{are_suite_ids}
 use Rattle.xd_system.proofs.Call.{AllFit, IsServingTurn}
 use Rattle.xd_system.proofs.Told.{fit-more}

@@ -4,15 +4,15 @@ use Rattle.std.specs.List.{list_any}
 use Rattle.std.proofs.lemmas.List.{append-nil}
 use Rattle.std.proofs.lemmas.List.Elements.{filter_map-append}
 use Rattle.xd_journal.specs.declared.entry.Entry.{Entry}
-use Rattle.xd_gateway.specs.declared.order.Order.{Order}
-use Rattle.xd_gateway.specs.declared.order.Order.TheVariants.{RunTests, RunAll, Steal, Shutdown}
-use Rattle.xd_ledger.specs.Numbers.{all_among, among}
-use Rattle.xd_ledger.specs.Plan.{items_named}
-use Rattle.xd_ledger.specs.Sharing.{State}
-use Rattle.xd_ledger.specs.Table.{held, in_rota}
-use Rattle.xd_ledger.specs.Workers.{is_shut, slot_of}
-use Rattle.xd_laws.proofs.Counts.{among_of-all_among, all_among-of}
-use Rattle.xd_laws.proofs.Logic.{differ}
+use Rattle.xd_commands.specs.declared.order.Order.{Order}
+use Rattle.xd_commands.specs.declared.order.Order.TheVariants.{RunTests, RunAll, Steal, Shutdown}
+use Rattle.xd_run.specs.Numbers.{all_among, among}
+use Rattle.xd_run.specs.Plan.{items_named}
+use Rattle.xd_run.specs.Sharing.{State}
+use Rattle.xd_run.specs.Table.{held, in_rota}
+use Rattle.xd_run.specs.Workers.{is_shut, slot_of}
+use Rattle.xd_run_laws.proofs.Counts.{among_of-all_among, all_among-of}
+use Rattle.xd_run_laws.proofs.Logic.{differ}
 use Rattle.xd_system.specs.LineGiven.{are_fair, line_given, is_shutdown, marks_last, steals_asked}
 use Rattle.xd_system.specs.Own.{answer_in, answers_by, ends_by, test_ended_in, order_told, told_to}
 use Rattle.xd_system.proofs.Deal.{Deal, asked_of, is_quiet, line_at, size_at}

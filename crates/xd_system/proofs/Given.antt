@@ -7,21 +7,21 @@ use Rattle.std.proofs.lemmas.List.{append-nil, take-append-drop, take-append-le,
 use Rattle.std.proofs.lemmas.List.Elements.{filter_map-append}
 use Rattle.xd_journal.specs.declared.entry.Entry.{Entry}
 use Rattle.xd_journal.specs.declared.entry.Entry.TheVariants.{Run, RunAll}
-use Rattle.xd_gateway.specs.declared.order.Order.{Order}
-use Rattle.xd_gateway.specs.declared.order.Order.TheVariants as order
-use Rattle.xd_ledger.specs.Handing.{run_plan}
-use Rattle.xd_ledger.specs.Numbers.{all_among, all_distinct, among, times}
-use Rattle.xd_ledger.specs.Orderly.{is_orderly, may_run, not_empty}
-use Rattle.xd_ledger.specs.Plan.{Plan, base, is_each, items_named, slot_items, total}
-use Rattle.xd_ledger.specs.Sharing.{State}
-use Rattle.xd_ledger.specs.State.{after_effect}
-use Rattle.xd_ledger.specs.Table.{all_items, assigned, held, in_rota}
-use Rattle.xd_ledger.specs.Workers.{is_shut, slot_of}
-use Rattle.xd_laws.proofs.Counts.{among-times, among_of-all_among, bounds-of_range, distinct-range, all_among-self}
-use Rattle.xd_laws.proofs.Logic.{and, cases_of, differ, not_true, split-and}
-use Rattle.xd_laws.proofs.Placed.{Placed}
-use Rattle.xd_laws.proofs.Places.{times-table}
-use Rattle.xd_laws.proofs.Rota.{seat-change}
+use Rattle.xd_commands.specs.declared.order.Order.{Order}
+use Rattle.xd_commands.specs.declared.order.Order.TheVariants as order
+use Rattle.xd_run.specs.Handing.{run_plan}
+use Rattle.xd_run.specs.Numbers.{all_among, all_distinct, among, times}
+use Rattle.xd_run.specs.Orderly.{is_orderly, may_run, not_empty}
+use Rattle.xd_run.specs.Plan.{Plan, base, is_each, items_named, slot_items, total}
+use Rattle.xd_run.specs.Sharing.{State}
+use Rattle.xd_run.specs.State.{after_effect}
+use Rattle.xd_run.specs.Table.{all_items, assigned, held, in_rota}
+use Rattle.xd_run.specs.Workers.{is_shut, slot_of}
+use Rattle.xd_run_laws.proofs.Counts.{among-times, among_of-all_among, bounds-of_range, distinct-range, all_among-self}
+use Rattle.xd_run_laws.proofs.Logic.{and, cases_of, differ, not_true, split-and}
+use Rattle.xd_run_laws.proofs.Placed.{Placed}
+use Rattle.xd_run_laws.proofs.Places.{times-table}
+use Rattle.xd_run_laws.proofs.Rota.{seat-change}
 use Rattle.xd_system.specs.LineGiven.{are_fair, are_new, asked_back, line_given, is_shutdown, line_after, marks_last, may_be_told, steals_asked}
 use Rattle.xd_system.specs.Own.{answer_in, answers_by, ends_by, test_ended_in, order_told, told_to}
 use Rattle.xd_system.proofs.Deal.{Deal, asked_of, line_at, size_at}

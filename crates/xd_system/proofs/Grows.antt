@@ -6,19 +6,19 @@ use Rattle.std.proofs.lemmas.List.{append-nil}
 use Rattle.std.proofs.lemmas.List.Elements.{filter_map-append}
 use Rattle.xd_journal.specs.declared.entry.Outcome.{Outcome}
 use Rattle.xd_journal.specs.declared.news.What.TheVariants as what
-use Rattle.xd_gateway.specs.declared.order.Order.{Order}
-use Rattle.xd_gateway.specs.declared.order.Order.TheVariants.{RunTests, RunAll, Steal, Shutdown}
-use Rattle.xd_run_tests.specs.declared.ask.Ask.{Ask}
-use Rattle.xd_run_tests.specs.declared.ask.Ask.TheVariants.{End, Tell}
-use Rattle.xd_run_tests.specs.declared.line_entry.LineEntry.{LineEntry}
-use Rattle.xd_run_tests.specs.declared.line_entry.LineEntry.TheVariants.{Test, Mark}
-use Rattle.xd_run_tests.specs.declared.phase.Ending.{Ending}
-use Rattle.xd_run_tests.specs.declared.phase.Ending.TheVariants.{BadCommand}
-use Rattle.xd_run_tests.specs.declared.phase.Phase.{Phase}
-use Rattle.xd_run_tests.specs.declared.phase.Phase.TheVariants.{Awaiting, Serving, Over}
-use Rattle.xd_run_tests.specs.declared.phase.Phase.TheVariants as phase
-use Rattle.xd_run_tests.specs.Line.{all_queued, can_ask, can_give, front, kept, left, number_of_log, queue, stolen_tests}
-use Rattle.xd_run_tests.specs.Turns.{CallTurn, all_heard, asking, ended_early, ending_text, given, has_log, item_heard, item_heard_in, line_settled, moved_on, over, stolen, stolen_if, test_started, told, too_many_channels}
+use Rattle.xd_commands.specs.declared.order.Order.{Order}
+use Rattle.xd_commands.specs.declared.order.Order.TheVariants.{RunTests, RunAll, Steal, Shutdown}
+use Rattle.xd_worker_tests.specs.declared.ask.Ask.{Ask}
+use Rattle.xd_worker_tests.specs.declared.ask.Ask.TheVariants.{End, Tell}
+use Rattle.xd_worker_tests.specs.declared.line_entry.LineEntry.{LineEntry}
+use Rattle.xd_worker_tests.specs.declared.line_entry.LineEntry.TheVariants.{Test, Mark}
+use Rattle.xd_worker_tests.specs.declared.phase.Ending.{Ending}
+use Rattle.xd_worker_tests.specs.declared.phase.Ending.TheVariants.{BadCommand}
+use Rattle.xd_worker_tests.specs.declared.phase.Phase.{Phase}
+use Rattle.xd_worker_tests.specs.declared.phase.Phase.TheVariants.{Awaiting, Serving, Over}
+use Rattle.xd_worker_tests.specs.declared.phase.Phase.TheVariants as phase
+use Rattle.xd_worker_tests.specs.Line.{all_queued, can_ask, can_give, front, kept, left, number_of_log, queue, stolen_tests}
+use Rattle.xd_worker_tests.specs.Turns.{CallTurn, all_heard, asking, ended_early, ending_text, given, has_log, item_heard, item_heard_in, line_settled, moved_on, over, stolen, stolen_if, test_started, told, too_many_channels}
 use Rattle.xd_system.specs.Own.{outcome_of_news, outcomes_in}
 use Rattle.xd_system.specs.Tells.{news_of_asks}
 use Rattle.xd_system.proofs.Told.{asks-append}

@@ -7,18 +7,18 @@ use Rattle.xd_journal.specs.declared.entry.Entry.{Entry}
 use Rattle.xd_journal.specs.declared.entry.Outcome.{Outcome}
 use Rattle.xd_journal.specs.declared.news.News.{News}
 use Rattle.xd_journal.specs.declared.settings.Settings.{Settings}
-use Rattle.xd_ledger.specs.Histories.{is_over}
-use Rattle.xd_ledger.specs.Numbers.{times}
-use Rattle.xd_ledger.specs.Plan.{base, total}
-use Rattle.xd_ledger.specs.Proper.{IsProper}
-use Rattle.xd_ledger.specs.Reports.{Report, Result, Crash, item_of, reports}
-use Rattle.xd_ledger.specs.Sharing.{State}
-use Rattle.xd_ledger.specs.Stops.{is_stopped}
-use Rattle.xd_ledger.specs.State.{no_one}
-use Rattle.xd_ledger.specs.Workers.{has_member, slot_of}
-use Rattle.xd_laws.specs.Stopped.{is_death}
-use Rattle.xd_laws.proofs.Laws.{reported_once}
-use Rattle.xd_laws.proofs.Logic.{cases_of}
+use Rattle.xd_run.specs.Histories.{is_over}
+use Rattle.xd_run.specs.Numbers.{times}
+use Rattle.xd_run.specs.Plan.{base, total}
+use Rattle.xd_run.specs.Proper.{IsProper}
+use Rattle.xd_run.specs.Reports.{Report, Result, Crash, item_of, reports}
+use Rattle.xd_run.specs.Sharing.{State}
+use Rattle.xd_run.specs.Stops.{is_stopped}
+use Rattle.xd_run.specs.State.{no_one}
+use Rattle.xd_run.specs.Workers.{has_member, slot_of}
+use Rattle.xd_run_laws.specs.Stopped.{is_death}
+use Rattle.xd_run_laws.proofs.Laws.{reported_once}
+use Rattle.xd_run_laws.proofs.Logic.{cases_of}
 use Rattle.xd_session.specs.History.{IsProperRun, Run as SoFar, run_of}
 use Rattle.xd_session.proofs.Steps.{sound-run}
 use Rattle.xd_system.specs.Laws.{RanOnce, ReportsItsTests, RunsEachOnce, is_report_of}

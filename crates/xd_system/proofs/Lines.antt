@@ -4,13 +4,13 @@ use Rattle.std.specs.Prelude.{◌==◌, nat_lt}
 use Rattle.std.specs.List.{list_all, list_any, range_with_len}
 use Rattle.std.proofs.lemmas.Bool.Decides.{nat_tests}
 use Rattle.std.proofs.lemmas.List.{append-nil}
-use Rattle.xd_gateway.specs.declared.order.Order.{Order}
-use Rattle.xd_gateway.specs.declared.order.Order.TheVariants.{RunTests, RunAll, Steal, Shutdown}
-use Rattle.xd_ledger.specs.Numbers.{among, without, all_distinct}
-use Rattle.xd_run_tests.specs.declared.line_entry.LineEntry.{LineEntry}
-use Rattle.xd_run_tests.specs.declared.line_entry.LineEntry.TheVariants.{Test, Mark}
-use Rattle.xd_run_tests.specs.Line.{can_give, has_test}
-use Rattle.xd_laws.proofs.Logic.{split-and, and, differ}
+use Rattle.xd_commands.specs.declared.order.Order.{Order}
+use Rattle.xd_commands.specs.declared.order.Order.TheVariants.{RunTests, RunAll, Steal, Shutdown}
+use Rattle.xd_run.specs.Numbers.{among, without, all_distinct}
+use Rattle.xd_worker_tests.specs.declared.line_entry.LineEntry.{LineEntry}
+use Rattle.xd_worker_tests.specs.declared.line_entry.LineEntry.TheVariants.{Test, Mark}
+use Rattle.xd_worker_tests.specs.Line.{can_give, has_test}
+use Rattle.xd_run_laws.proofs.Logic.{split-and, and, differ}
 use Rattle.xd_system.specs.LineGiven.{all_given, answers_left, are_new, asked_back, line_given, is_none_left, is_shutdown, line_after, marks_last, steals_asked, tests_given}
 use Rattle.std.proofs.Math.ListN.{drop_of_length-le}
 

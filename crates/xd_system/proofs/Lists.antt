@@ -3,13 +3,13 @@ use Rattle.std.proofs.Common.{◌≡◌, ℕ, zero, suc, ◌+◌, ◌≤◌, ◌
 use Rattle.std.specs.Prelude.{◌==◌, nat_lt, filter, Some}
 use Rattle.std.specs.List.{list_all}
 use Rattle.std.proofs.lemmas.Bool.Decides.{nat_tests}
-use Rattle.xd_ledger.specs.Numbers.{all_among, all_distinct, among, without}
-use Rattle.xd_run_tests.specs.declared.line_entry.LineEntry.{LineEntry}
-use Rattle.xd_run_tests.specs.declared.line_entry.LineEntry.TheVariants.{Test, Mark}
-use Rattle.xd_run_tests.specs.Line.{head_test}
-use Rattle.xd_laws.proofs.Counts.{among-drop, distinct-take, times-distinct}
-use Rattle.xd_laws.proofs.Logic.{and, differ, split-and}
-use Rattle.xd_laws.proofs.Pigeons.{all-taken}
+use Rattle.xd_run.specs.Numbers.{all_among, all_distinct, among, without}
+use Rattle.xd_worker_tests.specs.declared.line_entry.LineEntry.{LineEntry}
+use Rattle.xd_worker_tests.specs.declared.line_entry.LineEntry.TheVariants.{Test, Mark}
+use Rattle.xd_worker_tests.specs.Line.{head_test}
+use Rattle.xd_run_laws.proofs.Counts.{among-drop, distinct-take, times-distinct}
+use Rattle.xd_run_laws.proofs.Logic.{and, differ, split-and}
+use Rattle.xd_run_laws.proofs.Pigeons.{all-taken}
 
 pub count-taken : (k : ℕ) (D : List ℕ) → length (take k D) ≡ k → k ≤ length D
 count-taken zero D h = omega arith

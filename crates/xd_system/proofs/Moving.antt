@@ -7,26 +7,26 @@ use Rattle.std.proofs.lemmas.List.{append-nil}
 use Rattle.xd_journal.specs.declared.settings.Settings.{Settings}
 use Rattle.xd_journal.specs.declared.news.News.{News}
 use Rattle.xd_journal.specs.declared.news.What.{What}
-use Rattle.xd_gateway.specs.declared.order.Order.{Order}
-use Rattle.xd_ledger.specs.declared.member.Member.{Member}
-use Rattle.xd_ledger.specs.Numbers.{all_distinct, among, without}
-use Rattle.xd_ledger.specs.Owes.{owes, steal_open_to}
-use Rattle.xd_ledger.specs.Plan.{Plan, UnansweredSteal, items_named}
-use Rattle.xd_ledger.specs.Proper.{IsProper}
-use Rattle.xd_ledger.specs.Table.{held, in_rota}
-use Rattle.xd_ledger.specs.Workers.{has_collected, is_active, slot_of, was_ready}
-use Rattle.xd_laws.proofs.Laws.{lawful}
-use Rattle.xd_laws.proofs.Logic.{cases_of, differ, not_true, split-and, split-or}
-use Rattle.xd_laws.proofs.Members.{distinct-numbered, has, numbers}
-use Rattle.xd_laws.proofs.Turns.{Tidy}
+use Rattle.xd_commands.specs.declared.order.Order.{Order}
+use Rattle.xd_run.specs.declared.member.Member.{Member}
+use Rattle.xd_run.specs.Numbers.{all_distinct, among, without}
+use Rattle.xd_run.specs.Owes.{owes, steal_open_to}
+use Rattle.xd_run.specs.Plan.{Plan, UnansweredSteal, items_named}
+use Rattle.xd_run.specs.Proper.{IsProper}
+use Rattle.xd_run.specs.Table.{held, in_rota}
+use Rattle.xd_run.specs.Workers.{has_collected, is_active, slot_of, was_ready}
+use Rattle.xd_run_laws.proofs.Laws.{lawful}
+use Rattle.xd_run_laws.proofs.Logic.{cases_of, differ, not_true, split-and, split-or}
+use Rattle.xd_run_laws.proofs.Members.{distinct-numbered, has, numbers}
+use Rattle.xd_run_laws.proofs.Turns.{Tidy}
 use Rattle.xd_session.specs.History.{Run as SoFar, run_of, said_by}
 use Rattle.xd_session.proofs.Steps.{run-taken, sound-run}
-use Rattle.xd_run_tests.specs.declared.line_entry.LineEntry.{LineEntry}
-use Rattle.xd_run_tests.specs.declared.line_entry.LineEntry.TheVariants.{Test, Mark}
-use Rattle.xd_run_tests.specs.History.{call_after}
-use Rattle.xd_run_tests.specs.Line.{FunctionCall, left, tests_in_line}
-use Rattle.xd_worker_laws.specs.Idle.{IsIdle}
-use Rattle.xd_worker_laws.proofs.Idle.{waits_after}
+use Rattle.xd_worker_tests.specs.declared.line_entry.LineEntry.{LineEntry}
+use Rattle.xd_worker_tests.specs.declared.line_entry.LineEntry.TheVariants.{Test, Mark}
+use Rattle.xd_worker_tests.specs.History.{call_after}
+use Rattle.xd_worker_tests.specs.Line.{FunctionCall, left, tests_in_line}
+use Rattle.xd_worker_tests.specs.Idle.{IsIdle}
+use Rattle.xd_worker_tests.proofs.Idle.{waits_after}
 use Rattle.xd_system.specs.LineGiven.{all_given, line_given, is_shutdown, steals_asked}
 use Rattle.xd_system.specs.Fits.{is_collected}
 use Rattle.xd_system.specs.Laws.{IsMoving, SomethingMoves}

@@ -2,10 +2,10 @@
 use Rattle.std.proofs.Common.{◌≡◌, ℕ, ◌+◌, List, [], ◌∷◌, ◌++◌, map, Bool, true, false, not, refl, ap, sym, ◌∙◌, subst, arith, inl, inr}
 use Rattle.std.specs.Prelude.{◌==◌, filter, if◌then◌else◌}
 use Rattle.std.proofs.lemmas.Bool.Decides.{nat_tests}
-use Rattle.xd_ledger.specs.Numbers.{all_among, all_distinct, among, without}
-use Rattle.xd_ledger.specs.Plan.{Plan, base, is_each, items_named}
-use Rattle.xd_laws.proofs.Counts.{among_of-all_among}
-use Rattle.xd_laws.proofs.Logic.{and, cases_of, differ, split-and}
+use Rattle.xd_run.specs.Numbers.{all_among, all_distinct, among, without}
+use Rattle.xd_run.specs.Plan.{Plan, base, is_each, items_named}
+use Rattle.xd_run_laws.proofs.Counts.{among_of-all_among}
+use Rattle.xd_run_laws.proofs.Logic.{and, cases_of, differ, split-and}
 
 abbrev pub item_at : ℕ → ℕ → Plan → ℕ
 item_at slot n p = if is_each p.mode then base slot p + n else n

@@ -5,13 +5,13 @@ use Rattle.std.specs.List.{list_any}
 use Rattle.std.proofs.lemmas.List.Elements.{filter-append}
 use Rattle.xd_journal.specs.declared.entry.Entry.{Entry}
 use Rattle.xd_journal.specs.declared.entry.Entry.TheVariants.{Ready, Collected, Done, Back, Finished, Refused, Down, NotStarted, Start, Run, RunAll, Steal, Shutdown, Kill, Over}
-use Rattle.xd_ledger.specs.Plan.{items_named}
-use Rattle.xd_ledger.specs.Reports.{Report, Result, reports_from, reports_of}
-use Rattle.xd_ledger.specs.Sharing.{State}
-use Rattle.xd_ledger.specs.State.{after_effect, reached}
-use Rattle.xd_ledger.specs.Workers.{slot_of}
-use Rattle.xd_laws.specs.Stopped.{is_death}
-use Rattle.xd_laws.proofs.Logic.{differ}
+use Rattle.xd_run.specs.Plan.{items_named}
+use Rattle.xd_run.specs.Reports.{Report, Result, reports_from, reports_of}
+use Rattle.xd_run.specs.Sharing.{State}
+use Rattle.xd_run.specs.State.{after_effect, reached}
+use Rattle.xd_run.specs.Workers.{slot_of}
+use Rattle.xd_run_laws.specs.Stopped.{is_death}
+use Rattle.xd_run_laws.proofs.Logic.{differ}
 use Rattle.xd_system.specs.Deaths.{is_result_of}
 use Rattle.xd_system.specs.Laws.{is_report_of}
 

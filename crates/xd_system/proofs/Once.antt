@@ -14,22 +14,22 @@ use Rattle.xd_journal.specs.declared.entry.Outcome.{Outcome}
 use Rattle.xd_journal.specs.declared.news.News.{News}
 use Rattle.xd_journal.specs.declared.news.What.{What}
 use Rattle.xd_journal.specs.declared.news.What.TheVariants as what
-use Rattle.xd_ledger.specs.declared.member.Member.{Member}
-use Rattle.xd_ledger.specs.Histories.{starts_from, is_over}
-use Rattle.xd_ledger.specs.Meaning.{log_of, meaning_of, spent_by}
-use Rattle.xd_ledger.specs.Outputs.{outputs}
-use Rattle.xd_ledger.specs.Proper.{IsProper, may_follow}
-use Rattle.xd_ledger.specs.Sharing.{State}
-use Rattle.xd_ledger.specs.State.{after_effect, no_one}
-use Rattle.xd_ledger.specs.Stops.{is_shutting, is_stopped}
-use Rattle.xd_ledger.specs.Table.{held, in_rota}
-use Rattle.xd_ledger.specs.Workers.{has_collected, has_member, is_active, is_shut, made_gone, some_active}
-use Rattle.xd_laws.specs.Stopped.{is_death}
-use Rattle.xd_laws.proofs.Logic.{cases_of, differ, not_true, or-false, split-and}
-use Rattle.xd_laws.proofs.Members.{has, has-cleared, has-member, has-same}
+use Rattle.xd_run.specs.declared.member.Member.{Member}
+use Rattle.xd_run.specs.Histories.{starts_from, is_over}
+use Rattle.xd_run.specs.Meaning.{log_of, meaning_of, spent_by}
+use Rattle.xd_run.specs.Outputs.{outputs}
+use Rattle.xd_run.specs.Proper.{IsProper, may_follow}
+use Rattle.xd_run.specs.Sharing.{State}
+use Rattle.xd_run.specs.State.{after_effect, no_one}
+use Rattle.xd_run.specs.Stops.{is_shutting, is_stopped}
+use Rattle.xd_run.specs.Table.{held, in_rota}
+use Rattle.xd_run.specs.Workers.{has_collected, has_member, is_active, is_shut, made_gone, some_active}
+use Rattle.xd_run_laws.specs.Stopped.{is_death}
+use Rattle.xd_run_laws.proofs.Logic.{cases_of, differ, not_true, or-false, split-and}
+use Rattle.xd_run_laws.proofs.Members.{has, has-cleared, has-member, has-same}
 use Rattle.xd_session.specs.History.{IsProperRun, Run as SoFar, after_news, begun_run, input_of, run_of, said_by}
 use Rattle.xd_session.proofs.Steps.{input-follows, outputs-orderly, run-more, sound-run}
-use Rattle.xd_run_tests.specs.declared.ask.Ask.{Ask}
+use Rattle.xd_worker_tests.specs.declared.ask.Ask.{Ask}
 use Rattle.xd_system.specs.Laws.{ReportsItsTests}
 use Rattle.xd_system.specs.Fits.{is_collected}
 use Rattle.xd_system.specs.Moment.{IsFirstPart, IsCutShort, IsHonestAt, LinkNow, told_so_far}

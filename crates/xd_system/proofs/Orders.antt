@@ -4,17 +4,17 @@ use Rattle.std.specs.Prelude.{nat_lt, if◌then◌else◌}
 use Rattle.std.specs.List.{list_any, range_with_len}
 use Rattle.std.proofs.lemmas.Bool.Decides.{nat_tests}
 use Rattle.std.proofs.lemmas.List.Folds.{list_any-append}
-use Rattle.xd_gateway.specs.declared.order.Order.{Order}
-use Rattle.xd_ledger.specs.declared.seat.Seat.{Seat}
-use Rattle.xd_ledger.specs.Numbers.{among, times}
-use Rattle.xd_ledger.specs.Plan.{total}
-use Rattle.xd_ledger.specs.Sharing.{State}
-use Rattle.xd_ledger.specs.Table.{Table, all_items, at_seat, held, held_in}
-use Rattle.xd_laws.proofs.Counts.{among-times, times-after_range}
-use Rattle.xd_laws.proofs.Logic.{and, cases_of, differ, split-and}
-use Rattle.xd_laws.proofs.Placed.{Placed, at_most_once}
-use Rattle.xd_laws.proofs.Places.{held-within, times-table}
-use Rattle.xd_laws.proofs.Rota.{has_seat}
+use Rattle.xd_commands.specs.declared.order.Order.{Order}
+use Rattle.xd_run.specs.declared.seat.Seat.{Seat}
+use Rattle.xd_run.specs.Numbers.{among, times}
+use Rattle.xd_run.specs.Plan.{total}
+use Rattle.xd_run.specs.Sharing.{State}
+use Rattle.xd_run.specs.Table.{Table, all_items, at_seat, held, held_in}
+use Rattle.xd_run_laws.proofs.Counts.{among-times, times-after_range}
+use Rattle.xd_run_laws.proofs.Logic.{and, cases_of, differ, split-and}
+use Rattle.xd_run_laws.proofs.Placed.{Placed, at_most_once}
+use Rattle.xd_run_laws.proofs.Places.{held-within, times-table}
+use Rattle.xd_run_laws.proofs.Rota.{has_seat}
 use Rattle.xd_system.specs.LineGiven.{answers_left, are_fair, line_given, is_none_left, is_shutdown, line_after, marks_last, may_be_told}
 use Rattle.xd_system.proofs.Lines.{left_of}
 

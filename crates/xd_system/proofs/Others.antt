@@ -7,28 +7,28 @@ use Rattle.xd_journal.specs.declared.entry.Entry.{Entry}
 use Rattle.xd_journal.specs.declared.entry.Entry.TheVariants.{Ready, Collected, Done, Back, Finished, Refused, NotStarted, Start, Steal, Shutdown}
 use Rattle.xd_journal.specs.declared.entry.Ids.{Ids}
 use Rattle.xd_journal.specs.declared.entry.Outcome.{Outcome}
-use Rattle.xd_ledger.specs.declared.member.Member.{Member}
-use Rattle.xd_ledger.specs.declared.seat.Seat.{Seat}
-use Rattle.xd_ledger.specs.Books.{Books, marked}
-use Rattle.xd_ledger.specs.Collections.{listed, unequal, with_list}
-use Rattle.xd_ledger.specs.Deaths.{steal_without}
-use Rattle.xd_ledger.specs.Numbers.{all_among, all_distinct, among, without}
-use Rattle.xd_ledger.specs.Orderly.{is_in_order, is_orderly, may_run, not_empty}
-use Rattle.xd_ledger.specs.Plan.{UnansweredSteal, is_each, items_named}
-use Rattle.xd_ledger.specs.Proper.{may_follow, may_give_back}
-use Rattle.xd_ledger.specs.Results.{completed_first}
-use Rattle.xd_ledger.specs.Retry.{is_retry}
-use Rattle.xd_ledger.specs.Sharing.{State, in_books}
-use Rattle.xd_ledger.specs.State.{after_effect}
-use Rattle.xd_ledger.specs.Stops.{stopped_by}
-use Rattle.xd_ledger.specs.Table.{assigned, at_seat, crash_item, held, held_in, in_rota, joined}
-use Rattle.xd_ledger.specs.Workers.{has_member, is_active, is_shut, made_collected, made_gone, made_ready, made_shut, slot_in, slot_of, started}
-use Rattle.xd_laws.proofs.Inputs.{collecting-keeps}
-use Rattle.xd_laws.proofs.Logic.{cases_of, differ, or-false, split-and}
-use Rattle.xd_laws.proofs.Members.{has, has-cleared, has-more, has-same, has-set, is_member}
-use Rattle.xd_laws.proofs.MembersFit.{slot-marked}
-use Rattle.xd_laws.proofs.Queue.{held-left, held-shut}
-use Rattle.xd_laws.proofs.Rota.{has_seat, seat-change, seat-joined, seat-left}
+use Rattle.xd_run.specs.declared.member.Member.{Member}
+use Rattle.xd_run.specs.declared.seat.Seat.{Seat}
+use Rattle.xd_run.specs.Books.{Books, marked}
+use Rattle.xd_run.specs.Collections.{listed, unequal, with_list}
+use Rattle.xd_run.specs.Deaths.{steal_without}
+use Rattle.xd_run.specs.Numbers.{all_among, all_distinct, among, without}
+use Rattle.xd_run.specs.Orderly.{is_in_order, is_orderly, may_run, not_empty}
+use Rattle.xd_run.specs.Plan.{UnansweredSteal, is_each, items_named}
+use Rattle.xd_run.specs.Proper.{may_follow, may_give_back}
+use Rattle.xd_run.specs.Results.{completed_first}
+use Rattle.xd_run.specs.Retry.{is_retry}
+use Rattle.xd_run.specs.Sharing.{State, in_books}
+use Rattle.xd_run.specs.State.{after_effect}
+use Rattle.xd_run.specs.Stops.{stopped_by}
+use Rattle.xd_run.specs.Table.{assigned, at_seat, crash_item, held, held_in, in_rota, joined}
+use Rattle.xd_run.specs.Workers.{has_member, is_active, is_shut, made_collected, made_gone, made_ready, made_shut, slot_in, slot_of, started}
+use Rattle.xd_run_laws.proofs.Inputs.{collecting-keeps}
+use Rattle.xd_run_laws.proofs.Logic.{cases_of, differ, or-false, split-and}
+use Rattle.xd_run_laws.proofs.Members.{has, has-cleared, has-more, has-same, has-set, is_member}
+use Rattle.xd_run_laws.proofs.MembersFit.{slot-marked}
+use Rattle.xd_run_laws.proofs.Queue.{held-left, held-shut}
+use Rattle.xd_run_laws.proofs.Rota.{has_seat, seat-change, seat-joined, seat-left}
 use Rattle.xd_system.proofs.Deal.{Deals, asked_of, size_at}
 use Rattle.xd_system.proofs.Frames.{Apart, Frame, deal-same}
 use Rattle.xd_system.proofs.Returns.{answers-by}

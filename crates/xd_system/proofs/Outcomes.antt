@@ -6,24 +6,24 @@ use Rattle.std.proofs.lemmas.Bool.Decides.{nat_tests}
 use Rattle.xd_journal.specs.Kept.{most_of_one}
 use Rattle.xd_journal.specs.declared.entry.Outcome.{Outcome}
 use Rattle.xd_journal.specs.declared.news.What.TheVariants as what
-use Rattle.xd_gateway.specs.declared.order.Order.{Order}
-use Rattle.xd_gateway.specs.declared.order.Order.TheVariants.{RunTests, RunAll, Steal, Shutdown}
-use Rattle.xd_run_tests.specs.declared.ask.Ask.{Ask}
-use Rattle.xd_run_tests.specs.declared.ask.Ask.TheVariants.{CloseLog, End, Tell}
-use Rattle.xd_run_tests.specs.declared.input.Input.{Input}
-use Rattle.xd_run_tests.specs.declared.input.Input.TheVariants as input
-use Rattle.xd_run_tests.specs.declared.line_entry.LineEntry.{LineEntry}
-use Rattle.xd_run_tests.specs.declared.line_entry.LineEntry.TheVariants.{Mark, Test}
-use Rattle.xd_run_tests.specs.declared.phase.Ending.{Ending}
-use Rattle.xd_run_tests.specs.declared.phase.Ending.TheVariants.{BadCommand}
-use Rattle.xd_run_tests.specs.declared.phase.Phase.{Phase}
-use Rattle.xd_run_tests.specs.declared.phase.Phase.TheVariants.{Awaiting, Serving, Stopped, Over}
-use Rattle.xd_run_tests.specs.declared.phase.Phase.TheVariants as phase
-use Rattle.xd_run_tests.specs.History.{Given, all_asks, call_after, started_tests, turn_after}
-use Rattle.xd_run_tests.specs.Line.{FunctionCall, tests_in_line, all_queued, can_ask, can_give, front, head_test, is_among, kept, left, number_of_log, queue, running_test, stolen_tests}
-use Rattle.xd_run_tests.specs.Turns.{CallTurn, all_heard, answered_in, call_turn_of, done_in, ended_early, ending_text, given, has_log, item_heard_in, line_settled, moved_on, over, piece_asks, serving_suite, stolen, stolen_if, test_started, told, told_done, too_many_channels, asking}
-use Rattle.xd_run_tests.proofs.Starts.{gone_by, started_first}
-use Rattle.xd_laws.proofs.Logic.{and, differ, split-and}
+use Rattle.xd_commands.specs.declared.order.Order.{Order}
+use Rattle.xd_commands.specs.declared.order.Order.TheVariants.{RunTests, RunAll, Steal, Shutdown}
+use Rattle.xd_worker_tests.specs.declared.ask.Ask.{Ask}
+use Rattle.xd_worker_tests.specs.declared.ask.Ask.TheVariants.{CloseLog, End, Tell}
+use Rattle.xd_worker_tests.specs.declared.input.Input.{Input}
+use Rattle.xd_worker_tests.specs.declared.input.Input.TheVariants as input
+use Rattle.xd_worker_tests.specs.declared.line_entry.LineEntry.{LineEntry}
+use Rattle.xd_worker_tests.specs.declared.line_entry.LineEntry.TheVariants.{Mark, Test}
+use Rattle.xd_worker_tests.specs.declared.phase.Ending.{Ending}
+use Rattle.xd_worker_tests.specs.declared.phase.Ending.TheVariants.{BadCommand}
+use Rattle.xd_worker_tests.specs.declared.phase.Phase.{Phase}
+use Rattle.xd_worker_tests.specs.declared.phase.Phase.TheVariants.{Awaiting, Serving, Stopped, Over}
+use Rattle.xd_worker_tests.specs.declared.phase.Phase.TheVariants as phase
+use Rattle.xd_worker_tests.specs.History.{Given, all_asks, call_after, started_tests, turn_after}
+use Rattle.xd_worker_tests.specs.Line.{FunctionCall, tests_in_line, all_queued, can_ask, can_give, front, head_test, is_among, kept, left, number_of_log, queue, running_test, stolen_tests}
+use Rattle.xd_worker_tests.specs.Turns.{CallTurn, all_heard, answered_in, call_turn_of, done_in, ended_early, ending_text, given, has_log, item_heard_in, line_settled, moved_on, over, piece_asks, serving_suite, stolen, stolen_if, test_started, told, told_done, too_many_channels, asking}
+use Rattle.xd_worker_tests.proofs.Starts.{gone_by, started_first}
+use Rattle.xd_run_laws.proofs.Logic.{and, differ, split-and}
 use Rattle.xd_system.specs.Deaths.{are_of_started}
 use Rattle.xd_system.specs.Tells.{comes_in_run, is_of_run, outcome_at_end, outcomes}
 use Rattle.xd_system.proofs.Dones.{dones-append, dones_of, grown-dones, no-outcome, piece-dones, plain-outcome, serving-dones}

@@ -4,10 +4,10 @@ use Rattle.std.specs.List.{list_all}
 use Rattle.std.proofs.lemmas.List.{append-nil}
 use Rattle.xd_journal.specs.declared.news.What.{What}
 use Rattle.xd_journal.specs.declared.news.What.TheVariants as what
-use Rattle.xd_gateway.specs.declared.order.Order.{Order}
-use Rattle.xd_run_tests.specs.History.{Given, all_asks, turn_after}
-use Rattle.xd_run_tests.specs.Turns.{CallTurn}
-use Rattle.xd_laws.proofs.Logic.{split-and}
+use Rattle.xd_commands.specs.declared.order.Order.{Order}
+use Rattle.xd_worker_tests.specs.History.{Given, all_asks, turn_after}
+use Rattle.xd_worker_tests.specs.Turns.{CallTurn}
+use Rattle.xd_run_laws.proofs.Logic.{split-and}
 use Rattle.xd_system.specs.Moment.{IsFirstPart}
 use Rattle.xd_system.specs.Tells.{is_of_run, news_of_asks, order_in, orders_of, tells}
 use Rattle.xd_system.proofs.Told.{asks-append}

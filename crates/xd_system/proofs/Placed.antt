@@ -11,25 +11,25 @@ use Rattle.xd_journal.specs.declared.settings.Settings.{Settings}
 use Rattle.xd_journal.specs.declared.news.News.{News}
 use Rattle.xd_journal.specs.declared.news.What.{What}
 use Rattle.xd_journal.specs.declared.news.What.TheVariants as what
-use Rattle.xd_gateway.specs.declared.order.Order.{Order}
-use Rattle.xd_gateway.specs.declared.order.Order.TheVariants.{RunTests, RunAll, Steal, Shutdown}
-use Rattle.xd_ledger.specs.Numbers.{among, without}
-use Rattle.xd_ledger.specs.Plan.{items_named}
-use Rattle.xd_ledger.specs.Proper.{IsProper}
-use Rattle.xd_ledger.specs.Table.{held, in_rota}
-use Rattle.xd_ledger.specs.Workers.{is_active, slot_of}
-use Rattle.xd_laws.proofs.Counts.{among-filter}
-use Rattle.xd_laws.proofs.Laws.{lawful}
-use Rattle.xd_laws.proofs.Logic.{and, cases_of, differ, not_true, or-left, split-and}
-use Rattle.xd_laws.proofs.Members.{has-member}
-use Rattle.xd_laws.proofs.Turns.{Tidy}
+use Rattle.xd_commands.specs.declared.order.Order.{Order}
+use Rattle.xd_commands.specs.declared.order.Order.TheVariants.{RunTests, RunAll, Steal, Shutdown}
+use Rattle.xd_run.specs.Numbers.{among, without}
+use Rattle.xd_run.specs.Plan.{items_named}
+use Rattle.xd_run.specs.Proper.{IsProper}
+use Rattle.xd_run.specs.Table.{held, in_rota}
+use Rattle.xd_run.specs.Workers.{is_active, slot_of}
+use Rattle.xd_run_laws.proofs.Counts.{among-filter}
+use Rattle.xd_run_laws.proofs.Laws.{lawful}
+use Rattle.xd_run_laws.proofs.Logic.{and, cases_of, differ, not_true, or-left, split-and}
+use Rattle.xd_run_laws.proofs.Members.{has-member}
+use Rattle.xd_run_laws.proofs.Turns.{Tidy}
 use Rattle.xd_session.specs.History.{IsProperRun, Run as SoFar, run_of, said_by}
 use Rattle.xd_session.proofs.Steps.{run-taken, sound-run}
-use Rattle.xd_run_tests.specs.declared.ask.Ask.{Ask}
-use Rattle.xd_run_tests.specs.declared.line_entry.LineEntry.{LineEntry}
-use Rattle.xd_run_tests.specs.declared.line_entry.LineEntry.TheVariants.{Test, Mark}
-use Rattle.xd_run_tests.specs.History.{Given, call_after}
-use Rattle.xd_run_tests.specs.Line.{FunctionCall, left, tests_in_line}
+use Rattle.xd_worker_tests.specs.declared.ask.Ask.{Ask}
+use Rattle.xd_worker_tests.specs.declared.line_entry.LineEntry.{LineEntry}
+use Rattle.xd_worker_tests.specs.declared.line_entry.LineEntry.TheVariants.{Test, Mark}
+use Rattle.xd_worker_tests.specs.History.{Given, call_after}
+use Rattle.xd_worker_tests.specs.Line.{FunctionCall, left, tests_in_line}
 use Rattle.xd_system.specs.LineGiven.{all_given, are_fair, line_given, is_answer, is_shutdown, marks_last, steals_asked}
 use Rattle.xd_system.specs.Fits.{AnswersSteal, is_collected}
 use Rattle.xd_system.specs.Laws.{EachInItsPlace, items_given_back, items_of_link}

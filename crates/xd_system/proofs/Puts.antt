@@ -6,13 +6,13 @@ use Rattle.std.proofs.lemmas.Bool.Decides.{nat_tests}
 use Rattle.std.proofs.lemmas.List.{append-nil, map-append, take-append-le}
 use Rattle.std.proofs.lemmas.List.Folds.{list_any-append}
 use Rattle.xd_journal.specs.declared.news.What.{What}
-use Rattle.xd_gateway.specs.declared.order.Order.{Order}
-use Rattle.xd_gateway.specs.declared.order.Order.TheVariants.{Shutdown}
-use Rattle.xd_ledger.specs.Numbers.{among, all_distinct}
-use Rattle.xd_run_tests.specs.declared.line_entry.LineEntry.{LineEntry}
-use Rattle.xd_run_tests.specs.declared.line_entry.LineEntry.TheVariants.{Test, Mark}
-use Rattle.xd_run_tests.specs.Line.{FunctionCall, can_give, has_test}
-use Rattle.xd_laws.proofs.Logic.{split-and}
+use Rattle.xd_commands.specs.declared.order.Order.{Order}
+use Rattle.xd_commands.specs.declared.order.Order.TheVariants.{Shutdown}
+use Rattle.xd_run.specs.Numbers.{among, all_distinct}
+use Rattle.xd_worker_tests.specs.declared.line_entry.LineEntry.{LineEntry}
+use Rattle.xd_worker_tests.specs.declared.line_entry.LineEntry.TheVariants.{Test, Mark}
+use Rattle.xd_worker_tests.specs.Line.{FunctionCall, can_give, has_test}
+use Rattle.xd_run_laws.proofs.Logic.{split-and}
 use Rattle.xd_system.specs.LineGiven.{are_new, asked_back, line_given, is_shutdown, steals_asked, tests_given}
 use Rattle.xd_system.specs.Own.{answers_in, ends_in}
 use Rattle.xd_system.proofs.Call.{IsServing, mark_of}

@@ -9,26 +9,26 @@ use Rattle.xd_journal.specs.declared.entry.Entry.{Entry}
 use Rattle.xd_journal.specs.declared.entry.Entry.TheVariants.{Ready, Collected, Done, Back, Finished, Refused, Down, NotStarted, Start, Run, RunAll, Steal, Shutdown, Kill, Over}
 use Rattle.xd_journal.specs.declared.entry.Ids.{Ids}
 use Rattle.xd_journal.specs.declared.entry.Outcome.{Outcome}
-use Rattle.xd_ledger.specs.declared.member.Member.{Member}
-use Rattle.xd_ledger.specs.Books.{marked}
-use Rattle.xd_ledger.specs.Collections.{listed, unequal, with_list}
-use Rattle.xd_ledger.specs.Numbers.{among}
-use Rattle.xd_ledger.specs.Orderly.{is_orderly}
-use Rattle.xd_ledger.specs.Plan.{Plan, base, is_each, items_named}
-use Rattle.xd_ledger.specs.Proper.{may_follow, names_head}
-use Rattle.xd_ledger.specs.Reports.{Report, Crash, Result, reports, reports_of}
-use Rattle.xd_ledger.specs.Sharing.{State, in_books, shared_now}
-use Rattle.xd_ledger.specs.State.{after_effect, after_entries, no_one, reached}
-use Rattle.xd_ledger.specs.Table.{crash_item, held, joined}
-use Rattle.xd_ledger.specs.Workers.{has_member, is_active, made_collected, made_gone, made_ready, made_shut, slot_in, slot_of, started}
-use Rattle.xd_ledger.specs.Retry.{is_retry}
-use Rattle.xd_laws.proofs.Inputs.{collecting-keeps, still_shared}
-use Rattle.xd_laws.proofs.Logic.{cases_of, differ, split-and}
-use Rattle.xd_laws.proofs.Members.{has, has-member, has-more, has-same}
-use Rattle.xd_laws.proofs.MembersFit.{slot-marked, slot-old}
-use Rattle.xd_laws.proofs.Placed.{Placed, shared-of_held}
-use Rattle.xd_laws.proofs.Turns.{Tidy}
-use Rattle.xd_laws.proofs.Walk.{Keeps, reports-more}
+use Rattle.xd_run.specs.declared.member.Member.{Member}
+use Rattle.xd_run.specs.Books.{marked}
+use Rattle.xd_run.specs.Collections.{listed, unequal, with_list}
+use Rattle.xd_run.specs.Numbers.{among}
+use Rattle.xd_run.specs.Orderly.{is_orderly}
+use Rattle.xd_run.specs.Plan.{Plan, base, is_each, items_named}
+use Rattle.xd_run.specs.Proper.{may_follow, names_head}
+use Rattle.xd_run.specs.Reports.{Report, Crash, Result, reports, reports_of}
+use Rattle.xd_run.specs.Sharing.{State, in_books, shared_now}
+use Rattle.xd_run.specs.State.{after_effect, after_entries, no_one, reached}
+use Rattle.xd_run.specs.Table.{crash_item, held, joined}
+use Rattle.xd_run.specs.Workers.{has_member, is_active, made_collected, made_gone, made_ready, made_shut, slot_in, slot_of, started}
+use Rattle.xd_run.specs.Retry.{is_retry}
+use Rattle.xd_run_laws.proofs.Inputs.{collecting-keeps, still_shared}
+use Rattle.xd_run_laws.proofs.Logic.{cases_of, differ, split-and}
+use Rattle.xd_run_laws.proofs.Members.{has, has-member, has-more, has-same}
+use Rattle.xd_run_laws.proofs.MembersFit.{slot-marked, slot-old}
+use Rattle.xd_run_laws.proofs.Placed.{Placed, shared-of_held}
+use Rattle.xd_run_laws.proofs.Turns.{Tidy}
+use Rattle.xd_run_laws.proofs.Walk.{Keeps, reports-more}
 use Rattle.xd_system.specs.Deaths.{is_result_of}
 use Rattle.xd_system.specs.Own.{outcome_in, outcomes_by}
 use Rattle.xd_system.proofs.Completes.{names-item}

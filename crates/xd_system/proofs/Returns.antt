@@ -9,20 +9,20 @@ use Rattle.std.proofs.lemmas.List.Elements.{filter_map-append}
 use Rattle.std.proofs.lemmas.Slice.Eq.{bytes_eq-Decides}
 use Rattle.xd_journal.specs.declared.entry.Entry.{Entry}
 use Rattle.xd_journal.specs.declared.entry.Entry.TheVariants.{Back}
-use Rattle.xd_gateway.specs.declared.order.Order.{Order}
-use Rattle.xd_gateway.specs.declared.order.Order.TheVariants.{RunTests, RunAll, Steal, Shutdown}
-use Rattle.xd_ledger.specs.declared.seat.Seat.{Seat}
-use Rattle.xd_ledger.specs.Numbers.{all_among, all_distinct, among, without}
-use Rattle.xd_ledger.specs.Plan.{UnansweredSteal, items_named}
-use Rattle.xd_ledger.specs.Proper.{may_follow, may_give_back}
-use Rattle.xd_ledger.specs.Sharing.{State}
-use Rattle.xd_ledger.specs.State.{after_effect}
-use Rattle.xd_ledger.specs.Table.{at_seat, held, held_in}
-use Rattle.xd_ledger.specs.Workers.{is_active, slot_of}
-use Rattle.xd_laws.proofs.Counts.{among-drop, distinct-filter}
-use Rattle.xd_laws.proofs.Logic.{cases_of, differ, split-and}
-use Rattle.xd_laws.proofs.Rota.{seat-change}
-use Rattle.xd_ledger.specs.Orderly.{is_in_order}
+use Rattle.xd_commands.specs.declared.order.Order.{Order}
+use Rattle.xd_commands.specs.declared.order.Order.TheVariants.{RunTests, RunAll, Steal, Shutdown}
+use Rattle.xd_run.specs.declared.seat.Seat.{Seat}
+use Rattle.xd_run.specs.Numbers.{all_among, all_distinct, among, without}
+use Rattle.xd_run.specs.Plan.{UnansweredSteal, items_named}
+use Rattle.xd_run.specs.Proper.{may_follow, may_give_back}
+use Rattle.xd_run.specs.Sharing.{State}
+use Rattle.xd_run.specs.State.{after_effect}
+use Rattle.xd_run.specs.Table.{at_seat, held, held_in}
+use Rattle.xd_run.specs.Workers.{is_active, slot_of}
+use Rattle.xd_run_laws.proofs.Counts.{among-drop, distinct-filter}
+use Rattle.xd_run_laws.proofs.Logic.{cases_of, differ, split-and}
+use Rattle.xd_run_laws.proofs.Rota.{seat-change}
+use Rattle.xd_run.specs.Orderly.{is_in_order}
 use Rattle.xd_system.specs.LineGiven.{are_fair, are_new, line_given, first_answer, is_answer, steals_asked}
 use Rattle.xd_system.specs.Own.{answer_in, answers_by, ends_by, test_ended_in, order_told, told_to}
 use Rattle.xd_system.proofs.Backs.{dealt-back, dealt-nothing, fair-back, without-append, without-apart}

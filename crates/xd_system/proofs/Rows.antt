@@ -8,13 +8,13 @@ use Rattle.xd_journal.specs.declared.entry.Cause.TheVariants.{Ended}
 use Rattle.xd_journal.specs.declared.entry.Outcome.TheVariants.{Passed}
 use Rattle.xd_journal.specs.declared.news.News.{News}
 use Rattle.xd_journal.specs.declared.news.What.TheVariants as what
-use Rattle.xd_gateway.specs.declared.order.Order.TheVariants.{RunTests, RunAll, Shutdown, Steal}
-use Rattle.xd_ledger.specs.Proper.{IsProper}
-use Rattle.xd_ledger.specs.Reports.{Result, Crash, reports}
-use Rattle.xd_ledger.specs.Table.{held}
-use Rattle.xd_run_tests.specs.declared.input.Input.TheVariants as input
-use Rattle.xd_run_tests.specs.History.{Given, call_after}
-use Rattle.xd_run_tests.specs.Line.{left, running_test, tests_in_line}
+use Rattle.xd_commands.specs.declared.order.Order.TheVariants.{RunTests, RunAll, Shutdown, Steal}
+use Rattle.xd_run.specs.Proper.{IsProper}
+use Rattle.xd_run.specs.Reports.{Result, Crash, reports}
+use Rattle.xd_run.specs.Table.{held}
+use Rattle.xd_worker_tests.specs.declared.input.Input.TheVariants as input
+use Rattle.xd_worker_tests.specs.History.{Given, call_after}
+use Rattle.xd_worker_tests.specs.Line.{left, running_test, tests_in_line}
 use Rattle.xd_session.specs.History.{run_of}
 use Rattle.xd_system.specs.Laws.{items_given_back, items_of_link}
 use Rattle.xd_system.specs.Moment.{IsHonestAt, LinkNow, news_on_way, orders_on_way}

@@ -12,20 +12,20 @@ use Rattle.xd_journal.specs.declared.entry.Entry.TheVariants.{Finished, Refused}
 use Rattle.xd_journal.specs.declared.news.News.{News}
 use Rattle.xd_journal.specs.declared.news.What.{What}
 use Rattle.xd_journal.specs.declared.news.What.TheVariants as what
-use Rattle.xd_ledger.specs.declared.member.Member.{Member}
-use Rattle.xd_ledger.specs.Histories.{starts_from}
-use Rattle.xd_ledger.specs.Meaning.{breach, given_ids, log_of, meaning, meaning_of, or_breach, spent_by}
-use Rattle.xd_ledger.specs.Outputs.{outputs}
-use Rattle.xd_ledger.specs.Proper.{IsProper, may_follow}
-use Rattle.xd_ledger.specs.Sharing.{State}
-use Rattle.xd_ledger.specs.State.{after_effect, after_entries, is_input, no_one, settled}
-use Rattle.xd_ledger.specs.Workers.{has_collected, has_member, is_active, made_gone}
-use Rattle.xd_laws.proofs.Laws.{lawful}
-use Rattle.xd_laws.proofs.Logic.{cases_of, differ, or-false}
-use Rattle.xd_laws.proofs.Members.{has, has-cleared, has-member}
-use Rattle.xd_laws.proofs.Shared.{Listing, keeps_listing, listing-none}
-use Rattle.xd_laws.proofs.Turns.{Tidy, after_entries-join}
-use Rattle.xd_laws.proofs.Walk.{Keeps, input-of}
+use Rattle.xd_run.specs.declared.member.Member.{Member}
+use Rattle.xd_run.specs.Histories.{starts_from}
+use Rattle.xd_run.specs.Meaning.{breach, given_ids, log_of, meaning, meaning_of, or_breach, spent_by}
+use Rattle.xd_run.specs.Outputs.{outputs}
+use Rattle.xd_run.specs.Proper.{IsProper, may_follow}
+use Rattle.xd_run.specs.Sharing.{State}
+use Rattle.xd_run.specs.State.{after_effect, after_entries, is_input, no_one, settled}
+use Rattle.xd_run.specs.Workers.{has_collected, has_member, is_active, made_gone}
+use Rattle.xd_run_laws.proofs.Laws.{lawful}
+use Rattle.xd_run_laws.proofs.Logic.{cases_of, differ, or-false}
+use Rattle.xd_run_laws.proofs.Members.{has, has-cleared, has-member}
+use Rattle.xd_run_laws.proofs.Shared.{Listing, keeps_listing, listing-none}
+use Rattle.xd_run_laws.proofs.Turns.{Tidy, after_entries-join}
+use Rattle.xd_run_laws.proofs.Walk.{Keeps, input-of}
 use Rattle.xd_session.specs.History.{IsProperRun, Run as SoFar, after_news, begun_run, entries_with, input_of, said_by}
 use Rattle.xd_session.proofs.Steps.{outputs-orderly, sound-next, sound-run}
 use Rattle.xd_system.specs.Fits.{is_collected}

@@ -7,7 +7,7 @@ use Rattle.xd_journal.specs.declared.entry.Entry.TheVariants.{Ready, Collected, 
 use Rattle.xd_journal.specs.declared.news.News.{News}
 use Rattle.xd_journal.specs.declared.news.What.{What}
 use Rattle.xd_journal.specs.declared.news.What.TheVariants as what
-use Rattle.xd_laws.proofs.Logic.{differ}
+use Rattle.xd_run_laws.proofs.Logic.{differ}
 use Rattle.xd_session.specs.History.{said_by}
 use Rattle.xd_system.specs.Fits.{is_collected}
 use Rattle.xd_system.specs.Own.{outcomes_by, ends_by, collections_in}

@@ -7,11 +7,11 @@ use Rattle.xd_journal.specs.declared.entry.Outcome.TheVariants.{Passed}
 use Rattle.xd_journal.specs.declared.news.News.{News}
 use Rattle.xd_journal.specs.declared.news.What.{What}
 use Rattle.xd_journal.specs.declared.news.What.TheVariants as what
-use Rattle.xd_gateway.specs.declared.order.Order.TheVariants.{RunTests, Steal}
-use Rattle.xd_ledger.specs.Proper.{IsProper}
-use Rattle.xd_run_tests.specs.declared.input.Input.{Input}
-use Rattle.xd_run_tests.specs.declared.input.Input.TheVariants as input
-use Rattle.xd_run_tests.specs.History.{Given}
+use Rattle.xd_commands.specs.declared.order.Order.TheVariants.{RunTests, Steal}
+use Rattle.xd_run.specs.Proper.{IsProper}
+use Rattle.xd_worker_tests.specs.declared.input.Input.{Input}
+use Rattle.xd_worker_tests.specs.declared.input.Input.TheVariants as input
+use Rattle.xd_worker_tests.specs.History.{Given}
 use Rattle.xd_system.specs.Moment.{LinkNow}
 
 -- these news of one worker

@@ -8,15 +8,15 @@ use Rattle.std.proofs.lemmas.List.Folds.{list_any-append}
 use Rattle.xd_edge.specs.Limits.{most_tests}
 use Rattle.xd_journal.specs.declared.news.What.{What}
 use Rattle.xd_journal.specs.declared.news.What.TheVariants as what
-use Rattle.xd_gateway.specs.declared.order.Order.{Order}
-use Rattle.xd_ledger.specs.Meaning.{any_open, is_of, log_of, number_of}
-use Rattle.xd_ledger.specs.Numbers.{among, all_distinct, first_of}
-use Rattle.xd_run_tests.specs.declared.ask.Ask.TheVariants.{Tell, End}
-use Rattle.xd_run_tests.specs.declared.line_entry.LineEntry.{LineEntry}
-use Rattle.xd_run_tests.specs.declared.line_entry.LineEntry.TheVariants.{Test, Mark}
-use Rattle.xd_run_tests.specs.Line.{FunctionCall, head_test, left, number_of_log, tests_in_line}
-use Rattle.xd_run_tests.specs.Turns.{CallTurn, finished, has_log, line_settled, moved_on, test_started}
-use Rattle.xd_laws.proofs.Logic.{differ, or-left}
+use Rattle.xd_commands.specs.declared.order.Order.{Order}
+use Rattle.xd_run.specs.Meaning.{any_open, is_of, log_of, number_of}
+use Rattle.xd_run.specs.Numbers.{among, all_distinct, first_of}
+use Rattle.xd_worker_tests.specs.declared.ask.Ask.TheVariants.{Tell, End}
+use Rattle.xd_worker_tests.specs.declared.line_entry.LineEntry.{LineEntry}
+use Rattle.xd_worker_tests.specs.declared.line_entry.LineEntry.TheVariants.{Test, Mark}
+use Rattle.xd_worker_tests.specs.Line.{FunctionCall, head_test, left, number_of_log, tests_in_line}
+use Rattle.xd_worker_tests.specs.Turns.{CallTurn, finished, has_log, line_settled, moved_on, test_started}
+use Rattle.xd_run_laws.proofs.Logic.{differ, or-left}
 use Rattle.xd_system.specs.LineGiven.{all_given, line_given, is_shutdown, marks_last}
 use Rattle.xd_system.specs.Fits.{EndsLine, StartsLog, holds, is_collected}
 use Rattle.xd_system.specs.Moment.{IsFirstPart}

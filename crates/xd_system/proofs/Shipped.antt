@@ -12,12 +12,12 @@ use Rattle.xd_journal.specs.declared.news.What.{What}
 use Rattle.xd_journal.specs.declared.news.What.TheVariants.{Gone, NotStarted}
 use Rattle.xd_journal.specs.declared.settings.Settings.{Settings}
 use Rattle.xd_journal.specs.Said.{is_breach}
-use Rattle.xd_gateway.specs.declared.order.Order.{Order}
-use Rattle.xd_ledger.specs.Proper.{IsProper}
-use Rattle.xd_ledger.specs.Workers.{has_member}
-use Rattle.xd_laws.proofs.Logic.{and, cases_of, differ}
-use Rattle.xd_run_tests.specs.declared.input.Input.{Input}
-use Rattle.xd_run_tests.specs.History.{Given}
+use Rattle.xd_commands.specs.declared.order.Order.{Order}
+use Rattle.xd_run.specs.Proper.{IsProper}
+use Rattle.xd_run.specs.Workers.{has_member}
+use Rattle.xd_run_laws.proofs.Logic.{and, cases_of, differ}
+use Rattle.xd_worker_tests.specs.declared.input.Input.{Input}
+use Rattle.xd_worker_tests.specs.History.{Given}
 use Rattle.xd_session.specs.History.{Run as SoFar, input_of, run_of, said_by}
 use Rattle.xd_session.proofs.Steps.{run-more, sound-run}
 use Rattle.xd_system.specs.Moment.{AfterStart, WasBegun, IsFirstPart, IsHonestAt, LinkNow, TookOf, news_on_way, told_so_far}

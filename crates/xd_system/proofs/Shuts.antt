@@ -9,25 +9,25 @@ use Rattle.std.proofs.lemmas.List.Folds.{list_any-append, list_all-append}
 use Rattle.xd_journal.specs.declared.entry.Entry.{Entry}
 use Rattle.xd_journal.specs.declared.entry.Entry.TheVariants.{Collected, Shutdown, Start}
 use Rattle.xd_journal.specs.declared.entry.Ids.{Ids}
-use Rattle.xd_gateway.specs.declared.order.Order.{Order}
-use Rattle.xd_gateway.specs.declared.order.Order.TheVariants as order
-use Rattle.xd_ledger.specs.declared.seat.Seat.{Seat}
-use Rattle.xd_ledger.specs.Books.{marked}
-use Rattle.xd_ledger.specs.Collections.{listed, unequal, with_list}
-use Rattle.xd_ledger.specs.Numbers.{all_among}
-use Rattle.xd_ledger.specs.Orderly.{is_orderly}
-use Rattle.xd_ledger.specs.Plan.{items_named}
-use Rattle.xd_ledger.specs.Sharing.{State, in_books}
-use Rattle.xd_ledger.specs.State.{after_effect}
-use Rattle.xd_ledger.specs.Table.{held, held_in, in_rota}
-use Rattle.xd_ledger.specs.Workers.{has_member, is_active, is_shut, made_collected, made_shut, slot_of, started, was_ready}
-use Rattle.xd_laws.proofs.Inputs.{collecting-keeps, shut_as_before}
-use Rattle.xd_laws.proofs.Logic.{and, cases_of, differ, not_true, split-and}
-use Rattle.xd_laws.proofs.Members.{has, has-member, has-more, has-set, is_member}
-use Rattle.xd_laws.proofs.MembersFit.{slot-marked}
-use Rattle.xd_laws.proofs.Placed.{Placed}
-use Rattle.xd_laws.proofs.Queue.{held-none, held-shut}
-use Rattle.xd_laws.proofs.Rota.{seat-change}
+use Rattle.xd_commands.specs.declared.order.Order.{Order}
+use Rattle.xd_commands.specs.declared.order.Order.TheVariants as order
+use Rattle.xd_run.specs.declared.seat.Seat.{Seat}
+use Rattle.xd_run.specs.Books.{marked}
+use Rattle.xd_run.specs.Collections.{listed, unequal, with_list}
+use Rattle.xd_run.specs.Numbers.{all_among}
+use Rattle.xd_run.specs.Orderly.{is_orderly}
+use Rattle.xd_run.specs.Plan.{items_named}
+use Rattle.xd_run.specs.Sharing.{State, in_books}
+use Rattle.xd_run.specs.State.{after_effect}
+use Rattle.xd_run.specs.Table.{held, held_in, in_rota}
+use Rattle.xd_run.specs.Workers.{has_member, is_active, is_shut, made_collected, made_shut, slot_of, started, was_ready}
+use Rattle.xd_run_laws.proofs.Inputs.{collecting-keeps, shut_as_before}
+use Rattle.xd_run_laws.proofs.Logic.{and, cases_of, differ, not_true, split-and}
+use Rattle.xd_run_laws.proofs.Members.{has, has-member, has-more, has-set, is_member}
+use Rattle.xd_run_laws.proofs.MembersFit.{slot-marked}
+use Rattle.xd_run_laws.proofs.Placed.{Placed}
+use Rattle.xd_run_laws.proofs.Queue.{held-none, held-shut}
+use Rattle.xd_run_laws.proofs.Rota.{seat-change}
 use Rattle.xd_system.specs.LineGiven.{are_fair, line_given, is_shutdown, marks_last, steals_asked}
 use Rattle.xd_system.specs.Own.{answer_in, answers_by, ends_by, test_ended_in, order_told, told_to}
 use Rattle.xd_system.proofs.Deal.{Deal, HasNothing, asked_of, is_quiet, line_at, size_at}

@@ -9,23 +9,23 @@ use Rattle.xd_journal.specs.declared.entry.Entry.{Entry}
 use Rattle.xd_journal.specs.declared.entry.Entry.TheVariants.{Ready, Collected, Done, Back, Finished, Refused, Down, NotStarted, Start, Run, RunAll, Steal, Shutdown, Kill, Over}
 use Rattle.xd_journal.specs.declared.entry.Ids.{Ids}
 use Rattle.xd_journal.specs.declared.entry.Outcome.{Outcome}
-use Rattle.xd_gateway.specs.declared.order.Order.{Order}
-use Rattle.xd_ledger.specs.declared.member.Member.{Member}
-use Rattle.xd_ledger.specs.Books.{marked}
-use Rattle.xd_ledger.specs.Collections.{listed, unequal, with_list}
-use Rattle.xd_ledger.specs.Numbers.{all_among}
-use Rattle.xd_ledger.specs.Orderly.{is_orderly, may_run}
-use Rattle.xd_ledger.specs.Plan.{is_each, slot_items}
-use Rattle.xd_ledger.specs.Proper.{may_follow, names_head}
-use Rattle.xd_ledger.specs.Sharing.{State, in_books}
-use Rattle.xd_ledger.specs.State.{after_effect}
-use Rattle.xd_ledger.specs.Table.{in_rota}
-use Rattle.xd_ledger.specs.Workers.{has_member, is_active, is_shut, made_collected, made_gone, made_ready, made_shut, slot_of, started, was_ready}
-use Rattle.xd_laws.proofs.Inputs.{collecting-keeps}
-use Rattle.xd_laws.proofs.Logic.{cases_of, differ, not_true, split-and}
-use Rattle.xd_laws.proofs.Members.{has, has-cleared, has-more, has-same}
-use Rattle.xd_laws.proofs.Placed.{Placed}
-use Rattle.xd_laws.proofs.Walk.{Keeps}
+use Rattle.xd_commands.specs.declared.order.Order.{Order}
+use Rattle.xd_run.specs.declared.member.Member.{Member}
+use Rattle.xd_run.specs.Books.{marked}
+use Rattle.xd_run.specs.Collections.{listed, unequal, with_list}
+use Rattle.xd_run.specs.Numbers.{all_among}
+use Rattle.xd_run.specs.Orderly.{is_orderly, may_run}
+use Rattle.xd_run.specs.Plan.{is_each, slot_items}
+use Rattle.xd_run.specs.Proper.{may_follow, names_head}
+use Rattle.xd_run.specs.Sharing.{State, in_books}
+use Rattle.xd_run.specs.State.{after_effect}
+use Rattle.xd_run.specs.Table.{in_rota}
+use Rattle.xd_run.specs.Workers.{has_member, is_active, is_shut, made_collected, made_gone, made_ready, made_shut, slot_of, started, was_ready}
+use Rattle.xd_run_laws.proofs.Inputs.{collecting-keeps}
+use Rattle.xd_run_laws.proofs.Logic.{cases_of, differ, not_true, split-and}
+use Rattle.xd_run_laws.proofs.Members.{has, has-cleared, has-more, has-same}
+use Rattle.xd_run_laws.proofs.Placed.{Placed}
+use Rattle.xd_run_laws.proofs.Walk.{Keeps}
 use Rattle.xd_system.specs.Own.{outcome_in, outcomes_by, order_told, told_to}
 use Rattle.xd_system.proofs.Asked.{steal-rota}
 use Rattle.xd_system.proofs.Given.{gives-run}

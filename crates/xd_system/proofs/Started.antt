@@ -4,18 +4,18 @@ use Rattle.std.specs.Prelude.{◌==◌}
 use Rattle.xd_journal.specs.declared.settings.Settings.{Settings}
 use Rattle.xd_journal.specs.declared.entry.Entry.{Entry}
 use Rattle.xd_journal.specs.declared.entry.Entry.TheVariants.{Ready, Collected, Done, Back, Finished, Refused, Down, NotStarted, Start, Run, RunAll, Steal, Shutdown, Kill, Over}
-use Rattle.xd_ledger.specs.declared.member.Member.{Member}
-use Rattle.xd_ledger.specs.Books.{marked}
-use Rattle.xd_ledger.specs.Collections.{listed, unequal, with_list}
-use Rattle.xd_ledger.specs.Orderly.{is_orderly}
-use Rattle.xd_ledger.specs.Proper.{may_follow}
-use Rattle.xd_ledger.specs.Sharing.{State, in_books}
-use Rattle.xd_ledger.specs.State.{after_effect}
-use Rattle.xd_ledger.specs.Workers.{has_member, made_collected, made_gone, made_ready, made_shut, started}
-use Rattle.xd_laws.proofs.Inputs.{collecting-keeps}
-use Rattle.xd_laws.proofs.Logic.{differ}
-use Rattle.xd_laws.proofs.Members.{has, has-more, has-same}
-use Rattle.xd_laws.proofs.Walk.{Keeps}
+use Rattle.xd_run.specs.declared.member.Member.{Member}
+use Rattle.xd_run.specs.Books.{marked}
+use Rattle.xd_run.specs.Collections.{listed, unequal, with_list}
+use Rattle.xd_run.specs.Orderly.{is_orderly}
+use Rattle.xd_run.specs.Proper.{may_follow}
+use Rattle.xd_run.specs.Sharing.{State, in_books}
+use Rattle.xd_run.specs.State.{after_effect}
+use Rattle.xd_run.specs.Workers.{has_member, made_collected, made_gone, made_ready, made_shut, started}
+use Rattle.xd_run_laws.proofs.Inputs.{collecting-keeps}
+use Rattle.xd_run_laws.proofs.Logic.{differ}
+use Rattle.xd_run_laws.proofs.Members.{has, has-more, has-same}
+use Rattle.xd_run_laws.proofs.Walk.{Keeps}
 
 abbrev pub WasStarted : ℕ → State → List Entry → Type 0
 WasStarted w s es = has_member w (λ m. true) s.books ≡ true

@@ -9,19 +9,19 @@ use Rattle.std.proofs.lemmas.List.Elements.{filter-append}
 use Rattle.std.proofs.lemmas.Slice.Eq.{bytes_eq-Decides}
 use Rattle.xd_journal.specs.declared.news.What.{What}
 use Rattle.xd_journal.specs.declared.news.What.TheVariants as what
-use Rattle.xd_gateway.specs.declared.order.Order.{Order}
-use Rattle.xd_gateway.specs.declared.order.Order.TheVariants.{Steal}
-use Rattle.xd_ledger.specs.Meaning.{Log, any_open, is_of, log_of, number_of, with_news}
-use Rattle.xd_ledger.specs.Numbers.{all_among, all_distinct, among, without}
-use Rattle.xd_run_tests.specs.declared.ask.Ask.TheVariants.{Tell}
-use Rattle.xd_run_tests.specs.declared.line_entry.LineEntry.{LineEntry}
-use Rattle.xd_run_tests.specs.declared.line_entry.LineEntry.TheVariants.{Test, Mark}
-use Rattle.xd_run_tests.specs.Line.{FunctionCall, all_queued, can_ask, front, has_test, head_test, is_among, kept, left, number_of_log, passed, queue, stolen_tests}
-use Rattle.xd_run_tests.specs.Turns.{CallTurn, asking, ended_early, stolen, stolen_if}
-use Rattle.xd_run_tests.specs.declared.phase.Ending.TheVariants.{BadCommand}
-use Rattle.xd_laws.proofs.Counts.{distinct-filter, among_of-all_among}
-use Rattle.xd_laws.proofs.Logic.{differ, split-and}
-use Rattle.xd_ledger.specs.Orderly.{is_in_order}
+use Rattle.xd_commands.specs.declared.order.Order.{Order}
+use Rattle.xd_commands.specs.declared.order.Order.TheVariants.{Steal}
+use Rattle.xd_run.specs.Meaning.{Log, any_open, is_of, log_of, number_of, with_news}
+use Rattle.xd_run.specs.Numbers.{all_among, all_distinct, among, without}
+use Rattle.xd_worker_tests.specs.declared.ask.Ask.TheVariants.{Tell}
+use Rattle.xd_worker_tests.specs.declared.line_entry.LineEntry.{LineEntry}
+use Rattle.xd_worker_tests.specs.declared.line_entry.LineEntry.TheVariants.{Test, Mark}
+use Rattle.xd_worker_tests.specs.Line.{FunctionCall, all_queued, can_ask, front, has_test, head_test, is_among, kept, left, number_of_log, passed, queue, stolen_tests}
+use Rattle.xd_worker_tests.specs.Turns.{CallTurn, asking, ended_early, stolen, stolen_if}
+use Rattle.xd_worker_tests.specs.declared.phase.Ending.TheVariants.{BadCommand}
+use Rattle.xd_run_laws.proofs.Counts.{distinct-filter, among_of-all_among}
+use Rattle.xd_run_laws.proofs.Logic.{differ, split-and}
+use Rattle.xd_run.specs.Orderly.{is_in_order}
 use Rattle.xd_system.specs.LineGiven.{all_given, line_given, is_answer, is_shutdown, steals_asked}
 use Rattle.xd_system.specs.Fits.{AnswersSteal, is_collected}
 use Rattle.xd_system.specs.Moment.{IsFirstPart}

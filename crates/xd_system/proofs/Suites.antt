@@ -11,8 +11,8 @@ use Rattle.xd_edge.specs.declared.mode.ModeKind.TheVariants.{Local, Each, Load, 
 use Rattle.xd_edge.proofs.TextLemmas.{bytes_eq-sym}
 use Rattle.xd_edge.specs.Ids.{is_id, is_plain}
 use Rattle.xd_edge.specs.Limits.{most_tests}
-use Rattle.xd_ledger.specs.Proper.{has_text, no_text_twice}
-use Rattle.xd_laws.proofs.Logic.{and, differ, not_true, split-and}
+use Rattle.xd_run.specs.Proper.{has_text, no_text_twice}
+use Rattle.xd_run_laws.proofs.Logic.{and, differ, not_true, split-and}
 use Rattle.xd_suite.specs.declared.test.Test.{Test}
 use Rattle.xd_suite.specs.declared.fault.SuiteWhat.{SuiteWhat}
 use Rattle.xd_suite.specs.declared.fault.SuiteWhat.TheVariants.{UnknownKey, WrongKind, TooMany, Missing, BadId}

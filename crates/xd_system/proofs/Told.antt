@@ -6,9 +6,9 @@ use Rattle.std.proofs.lemmas.Grind.{fold-append}
 use Rattle.std.proofs.lemmas.List.Elements.{filter_map-append}
 use Rattle.std.proofs.lemmas.List.Folds.{list_any-append}
 use Rattle.xd_journal.specs.declared.news.What.{What}
-use Rattle.xd_gateway.specs.declared.order.Order.{Order}
-use Rattle.xd_ledger.specs.Meaning.{log_of, with_news}
-use Rattle.xd_run_tests.specs.declared.ask.Ask.{Ask}
+use Rattle.xd_commands.specs.declared.order.Order.{Order}
+use Rattle.xd_run.specs.Meaning.{log_of, with_news}
+use Rattle.xd_worker_tests.specs.declared.ask.Ask.{Ask}
 use Rattle.xd_system.specs.Fits.{FitsNext, is_collected}
 use Rattle.xd_system.specs.Moment.{IsFirstPart}
 use Rattle.xd_system.specs.Own.{answers_in, answer_of_news, ends_in, end_of_news}

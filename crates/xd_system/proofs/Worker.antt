@@ -7,22 +7,22 @@ use Rattle.std.proofs.lemmas.List.Elements.{filter_map-append}
 use Rattle.std.proofs.lemmas.Bool.Decides.{nat_tests}
 use Rattle.xd_edge.specs.Ids.{is_id}
 use Rattle.xd_edge.specs.Limits.{most_tests}
-use Rattle.xd_ledger.specs.Proper.{no_text_twice}
+use Rattle.xd_run.specs.Proper.{no_text_twice}
 use Rattle.xd_journal.specs.declared.news.What.{What}
 use Rattle.xd_journal.specs.declared.news.What.TheVariants as what
-use Rattle.xd_gateway.specs.declared.order.Order.{Order}
-use Rattle.xd_gateway.specs.declared.order.Order.TheVariants.{RunTests, RunAll, Steal, Shutdown}
-use Rattle.xd_run_tests.specs.declared.ask.Ask.{Ask}
-use Rattle.xd_run_tests.specs.declared.input.Input.{Input}
-use Rattle.xd_run_tests.specs.declared.input.Input.TheVariants as input
-use Rattle.xd_run_tests.specs.declared.line_entry.LineEntry.TheVariants.{Test, Mark}
-use Rattle.xd_run_tests.specs.declared.phase.Ending.TheVariants.{BadCommand}
-use Rattle.xd_run_tests.specs.declared.phase.Phase.{Phase}
-use Rattle.xd_run_tests.specs.declared.phase.Phase.TheVariants.{Awaiting, Serving, Over}
-use Rattle.xd_run_tests.specs.History.{Given, all_asks, call_after, turn_after}
-use Rattle.xd_run_tests.specs.Line.{FunctionCall, can_give, left, new_call, running_test, tests_in_line}
-use Rattle.xd_run_tests.specs.Turns.{CallTurn, all_heard, answered_in, call_turn_of, done_of, ended_early, given, item_heard, item_heard_in, line_settled, output_fed, told}
-use Rattle.xd_laws.proofs.Logic.{differ, split-and}
+use Rattle.xd_commands.specs.declared.order.Order.{Order}
+use Rattle.xd_commands.specs.declared.order.Order.TheVariants.{RunTests, RunAll, Steal, Shutdown}
+use Rattle.xd_worker_tests.specs.declared.ask.Ask.{Ask}
+use Rattle.xd_worker_tests.specs.declared.input.Input.{Input}
+use Rattle.xd_worker_tests.specs.declared.input.Input.TheVariants as input
+use Rattle.xd_worker_tests.specs.declared.line_entry.LineEntry.TheVariants.{Test, Mark}
+use Rattle.xd_worker_tests.specs.declared.phase.Ending.TheVariants.{BadCommand}
+use Rattle.xd_worker_tests.specs.declared.phase.Phase.{Phase}
+use Rattle.xd_worker_tests.specs.declared.phase.Phase.TheVariants.{Awaiting, Serving, Over}
+use Rattle.xd_worker_tests.specs.History.{Given, all_asks, call_after, turn_after}
+use Rattle.xd_worker_tests.specs.Line.{FunctionCall, can_give, left, new_call, running_test, tests_in_line}
+use Rattle.xd_worker_tests.specs.Turns.{CallTurn, all_heard, answered_in, call_turn_of, done_of, ended_early, given, item_heard, item_heard_in, line_settled, output_fed, told}
+use Rattle.xd_run_laws.proofs.Logic.{differ, split-and}
 use Rattle.xd_system.specs.LineGiven.{line_given, is_shutdown, marks_last, steals_asked}
 use Rattle.xd_system.specs.Fits.{is_collected}
 use Rattle.xd_system.specs.Moment.{IsFirstPart}

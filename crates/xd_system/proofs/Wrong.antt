@@ -7,12 +7,12 @@ use Rattle.xd_journal.specs.declared.entry.Outcome.TheVariants.{Passed}
 use Rattle.xd_journal.specs.declared.news.News.{News}
 use Rattle.xd_journal.specs.declared.news.What.{What}
 use Rattle.xd_journal.specs.declared.news.What.TheVariants as what
-use Rattle.xd_gateway.specs.declared.order.Order.TheVariants.{Shutdown}
-use Rattle.xd_ledger.specs.Table.{held}
-use Rattle.xd_laws.proofs.Logic.{differ}
-use Rattle.xd_run_tests.specs.declared.input.Input.TheVariants as input
-use Rattle.xd_run_tests.specs.History.{Given, call_after, started_tests}
-use Rattle.xd_run_tests.specs.Line.{left, running_test, tests_in_line}
+use Rattle.xd_commands.specs.declared.order.Order.TheVariants.{Shutdown}
+use Rattle.xd_run.specs.Table.{held}
+use Rattle.xd_run_laws.proofs.Logic.{differ}
+use Rattle.xd_worker_tests.specs.declared.input.Input.TheVariants as input
+use Rattle.xd_worker_tests.specs.History.{Given, call_after, started_tests}
+use Rattle.xd_worker_tests.specs.Line.{left, running_test, tests_in_line}
 use Rattle.xd_session.specs.History.{run_of}
 use Rattle.xd_system.specs.Moment.{IsHonestAt, LinkNow}
 use Rattle.xd_system.specs.Own.{is_accused}

@@ -5,16 +5,16 @@ use Rattle.xd_journal.specs.declared.entry.Entry.{Entry}
 use Rattle.xd_journal.specs.declared.entry.Outcome.{Outcome}
 use Rattle.xd_journal.specs.declared.news.News.{News}
 use Rattle.xd_journal.specs.declared.settings.Settings.{Settings}
-use Rattle.xd_ledger.specs.Numbers.{among}
-use Rattle.xd_ledger.specs.Plan.{base}
-use Rattle.xd_ledger.specs.Proper.{IsProper}
-use Rattle.xd_ledger.specs.Reports.{Report, Crash, Result, reports}
-use Rattle.xd_ledger.specs.State.{state_at}
-use Rattle.xd_ledger.specs.Table.{held}
-use Rattle.xd_ledger.specs.Workers.{slot_of}
-use Rattle.xd_laws.specs.Crashes.{IsDeath}
-use Rattle.xd_run_tests.specs.History.{Given, no_number_twice, started_tests}
-use Rattle.xd_run_tests.specs.Line.{is_among}
+use Rattle.xd_run.specs.Numbers.{among}
+use Rattle.xd_run.specs.Plan.{base}
+use Rattle.xd_run.specs.Proper.{IsProper}
+use Rattle.xd_run.specs.Reports.{Report, Crash, Result, reports}
+use Rattle.xd_run.specs.State.{state_at}
+use Rattle.xd_run.specs.Table.{held}
+use Rattle.xd_run.specs.Workers.{slot_of}
+use Rattle.xd_run_laws.specs.Crashes.{IsDeath}
+use Rattle.xd_worker_tests.specs.History.{Given, no_number_twice, started_tests}
+use Rattle.xd_worker_tests.specs.Line.{is_among}
 use Rattle.xd_session.specs.History.{Run, run_of}
 use Rattle.xd_system.specs.Moment.{IsFirstPart, IsHonestAt, LinkNow}
 use Rattle.xd_system.specs.Tells.{outcomes}

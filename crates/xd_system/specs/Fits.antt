@@ -4,9 +4,9 @@ use Rattle.std.specs.Prelude.{◌≡◌, ℕ, ◌==◌, ◌%◌, nat_lt, Bool, t
 use Rattle.std.specs.List.{list_any}
 use Rattle.xd_journal.specs.declared.news.What.{What}
 use Rattle.xd_journal.specs.declared.news.What.TheVariants as what
-use Rattle.xd_gateway.specs.declared.order.Order.{Order}
-use Rattle.xd_ledger.specs.Meaning.{log_of, number_of, is_of, is_open_log, any_open}
-use Rattle.xd_ledger.specs.Numbers.{all_among, first_of}
+use Rattle.xd_commands.specs.declared.order.Order.{Order}
+use Rattle.xd_run.specs.Meaning.{log_of, number_of, is_of, is_open_log, any_open}
+use Rattle.xd_run.specs.Numbers.{all_among, first_of}
 use Rattle.xd_system.specs.LineGiven.{line_given, is_answer, is_shutdown, steals_asked}
 use Rattle.xd_system.specs.Own.{answers_in, ends_in}
 use Rattle.xd_system.specs.Tells.{are_suite_ids}

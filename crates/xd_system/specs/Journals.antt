@@ -2,11 +2,11 @@
 use Rattle.std.specs.Prelude.{◌≡◌, true, false, List, ◌∷◌, ◌++◌}
 use Rattle.xd_journal.specs.declared.entry.Entry.{Entry}
 use Rattle.xd_journal.specs.declared.journal.Journal.{Journal}
-use Rattle.xd_ledger.specs.Histories.{after_inputs, after_starts, journal_of}
-use Rattle.xd_ledger.specs.Legal.{EndsWith}
-use Rattle.xd_ledger.specs.Orderly.{is_orderly}
-use Rattle.xd_ledger.specs.Proper.{IsProper}
-use Rattle.xd_ledger.specs.State.{after_entries, is_input, no_one}
+use Rattle.xd_run.specs.Histories.{after_inputs, after_starts, journal_of}
+use Rattle.xd_run.specs.Legal.{EndsWith}
+use Rattle.xd_run.specs.Orderly.{is_orderly}
+use Rattle.xd_run.specs.Proper.{IsProper}
+use Rattle.xd_run.specs.State.{after_entries, is_input, no_one}
 
 -- The journal is the one that proper inputs make, with or without its end.
 -- Example: the first starts alone, of inputs that have not come yet.

@@ -6,19 +6,19 @@ use Rattle.std.specs.List.{list_any, flat_map}
 use Rattle.xd_journal.specs.declared.entry.Outcome.{Outcome}
 use Rattle.xd_journal.specs.declared.news.News.{News}
 use Rattle.xd_journal.specs.declared.settings.Settings.{Settings}
-use Rattle.xd_ledger.specs.Histories.{is_over}
-use Rattle.xd_ledger.specs.Numbers.{times, without}
-use Rattle.xd_ledger.specs.Owes.{owes}
-use Rattle.xd_ledger.specs.Plan.{base, items_named, total}
-use Rattle.xd_ledger.specs.Proper.{IsProper}
-use Rattle.xd_ledger.specs.Reports.{Report, Result, Crash, item_of, reports}
-use Rattle.xd_ledger.specs.Stops.{is_stopped}
-use Rattle.xd_ledger.specs.Table.{held}
-use Rattle.xd_ledger.specs.Workers.{has_member, is_active, slot_of}
-use Rattle.xd_laws.specs.Stopped.{is_death}
-use Rattle.xd_run_tests.specs.declared.phase.Phase.TheVariants.{Awaiting}
-use Rattle.xd_run_tests.specs.History.{Given, call_after, started_tests}
-use Rattle.xd_run_tests.specs.Line.{left, tests_in_line}
+use Rattle.xd_run.specs.Histories.{is_over}
+use Rattle.xd_run.specs.Numbers.{times, without}
+use Rattle.xd_run.specs.Owes.{owes}
+use Rattle.xd_run.specs.Plan.{base, items_named, total}
+use Rattle.xd_run.specs.Proper.{IsProper}
+use Rattle.xd_run.specs.Reports.{Report, Result, Crash, item_of, reports}
+use Rattle.xd_run.specs.Stops.{is_stopped}
+use Rattle.xd_run.specs.Table.{held}
+use Rattle.xd_run.specs.Workers.{has_member, is_active, slot_of}
+use Rattle.xd_run_laws.specs.Stopped.{is_death}
+use Rattle.xd_worker_tests.specs.declared.phase.Phase.TheVariants.{Awaiting}
+use Rattle.xd_worker_tests.specs.History.{Given, call_after, started_tests}
+use Rattle.xd_worker_tests.specs.Line.{left, tests_in_line}
 use Rattle.xd_session.specs.History.{Run, run_of}
 use Rattle.xd_system.specs.LineGiven.{all_given}
 use Rattle.xd_system.specs.Moment.{IsHonestAt, LinkNow, WasBegun, news_on_way, orders_on_way}

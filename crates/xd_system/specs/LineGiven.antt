@@ -5,10 +5,10 @@
 use Rattle.std.specs.Prelude.{ℕ, ◌&&◌, ◌||◌, not, nat_lt, Bool, true, false, List, [], ◌∷◌, ◌++◌, drop}
 use Rattle.std.specs.List.{list_all, range_with_len}
 use Rattle.std.specs.Str.{bytes_eq}
-use Rattle.xd_gateway.specs.declared.order.Order.{Order}
-use Rattle.xd_gateway.specs.declared.order.Order.TheVariants.{RunTests, RunAll, Steal, Shutdown}
-use Rattle.xd_ledger.specs.Numbers.{among, without, all_distinct}
-use Rattle.xd_ledger.specs.Orderly.{is_in_order}
+use Rattle.xd_commands.specs.declared.order.Order.{Order}
+use Rattle.xd_commands.specs.declared.order.Order.TheVariants.{RunTests, RunAll, Steal, Shutdown}
+use Rattle.xd_run.specs.Numbers.{among, without, all_distinct}
+use Rattle.xd_run.specs.Orderly.{is_in_order}
 
 -- the first answer, or nothing where there is none
 abbrev pub first_answer : List (List ℕ) → List ℕ

@@ -9,9 +9,9 @@ use Rattle.xd_journal.specs.declared.news.What.{What}
 use Rattle.xd_journal.specs.declared.news.What.TheVariants.{Gone, NotStarted}
 use Rattle.xd_journal.specs.declared.settings.Settings.{Settings}
 use Rattle.xd_journal.specs.Said.{is_breach}
-use Rattle.xd_gateway.specs.declared.order.Order.{Order}
-use Rattle.xd_ledger.specs.Workers.{has_member}
-use Rattle.xd_run_tests.specs.History.{Given}
+use Rattle.xd_commands.specs.declared.order.Order.{Order}
+use Rattle.xd_run.specs.Workers.{has_member}
+use Rattle.xd_worker_tests.specs.History.{Given}
 use Rattle.xd_session.specs.History.{run_of, said_by}
 use Rattle.xd_system.specs.Own.{told_to}
 use Rattle.xd_system.specs.Tells.{is_of_run, orders_of, tells}

@@ -8,8 +8,8 @@ use Rattle.xd_journal.specs.declared.entry.Entry.TheVariants.{Back, Done, Down, 
 use Rattle.xd_journal.specs.declared.entry.Outcome.{Outcome}
 use Rattle.xd_journal.specs.declared.news.What.{What}
 use Rattle.xd_journal.specs.declared.news.What.TheVariants as what
-use Rattle.xd_gateway.specs.declared.order.Order.{Order}
-use Rattle.xd_gateway.specs.Orders.{order_of}
+use Rattle.xd_commands.specs.declared.order.Order.{Order}
+use Rattle.xd_commands.specs.Orders.{order_of}
 
 -- ---- of a journal
 

@@ -3,9 +3,9 @@
 #![tactic(auto)]
 
 #[cfg(test)]
-mod pair;
+mod gateway;
 #[cfg(test)]
-mod remote;
+mod pair;
 #[cfg(test)]
 mod told;
 #[cfg(test)]

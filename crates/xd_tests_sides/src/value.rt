@@ -2,8 +2,8 @@
 use std::alloc::Global;
 use std::test::Fail;
 use xd_edge::Blob;
-use xd_loads::loads;
 use xd_value::{DumpFault, Value, dumps};
+use xd_value_loads::loads;
 
 fn payload_of(alloc: Global, value: &Value) -> Result<Blob, Fail> {
     Ok(dumps(alloc, value).ok().ok_or("not written")?)

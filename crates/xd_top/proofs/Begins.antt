@@ -4,7 +4,7 @@ use Rattle.std.proofs.lemmas.Bool.{le-leb}
 use Rattle.xd_edge.specs.declared.mode.ModeKind.{ModeKind}
 use Rattle.xd_edge.specs.declared.mode.ModeKind.TheVariants.{Each, Load, LoadFile, LoadGroup, LoadScope, Local, WorkSteal}
 use Rattle.xd_journal.specs.declared.settings.Settings.{Settings}
-use Rattle.xd_ledger.specs.Proper.{has_workers, most_restarts, most_workers}
+use Rattle.xd_run.specs.Proper.{has_workers, most_restarts, most_workers}
 use Rattle.xd_link.specs.declared.place.Place.{Place}
 use Rattle.xd_session.specs.Stands.{CanBegin}
 use Rattle.xd_words.specs.Words.{FitsRun}

@@ -10,12 +10,12 @@ use Rattle.xd_link.specs.Source.{Gave, Supply, with_given}
 use Rattle.xd_link.specs.Starter.{with_start}
 use Rattle.xd_link.specs.declared.place.Place.{Place}
 use Rattle.xd_worker.specs.History.{HeardInput}
-use Rattle.xd_listen.specs.Complete.{AreGood, AreStill, GoesWrong, IsCalm}
-use Rattle.xd_listen.specs.Ends.{Closes, Scene, Served}
-use Rattle.xd_listen.specs.Spoke.{Speaks}
+use Rattle.xd_worker_serve.specs.Complete.{AreGood, AreStill, GoesWrong, IsCalm}
+use Rattle.xd_worker_serve.specs.Ends.{Closes, Scene, Served}
+use Rattle.xd_worker_serve.specs.Spoke.{Speaks}
 use Rattle.xd_link.specs.Spring.{Spring}
-use Rattle.xd_listen.proofs.Completing.{calm, complete, goes_wrong}
-use Rattle.xd_linked.specs.Linked.{EndedLink}
+use Rattle.xd_worker_serve.proofs.Completing.{calm, complete, goes_wrong}
+use Rattle.xd_dist.specs.Linked.{EndedLink}
 use Rattle.xd_top.specs.Outside.{Workplace}
 use Rattle.xd_top.specs.Worker.{DidServe, ServedLink, ServesLink, all_bytes, served_scene, unwritten}
 

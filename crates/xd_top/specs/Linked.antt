@@ -1,7 +1,7 @@
 -- What a run on workers comes to.
 use Rattle.std.specs.Prelude.{ℕ, ◌≡◌, List, Option, Some, None}
 use Rattle.xd_journal.specs.declared.journal.Journal.{Journal}
-use Rattle.xd_linked.specs.Linked.{EndedLink, LinkedRun, LinksSeen, Setup, links_seen}
+use Rattle.xd_dist.specs.Linked.{EndedLink, LinkedRun, LinksSeen, Setup, links_seen}
 use Rattle.xd_top.specs.Outside.{Outside}
 
 -- what a run on workers sees of the outside

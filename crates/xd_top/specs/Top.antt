@@ -6,7 +6,7 @@ use Rattle.xd_link.specs.declared.place.Place.TheVariants.{Listen, Own}
 use Rattle.xd_top.specs.declared.refusal.Refusal.TheVariants as refusal
 use Rattle.xd_top.specs.Linked.{DidLinked}
 use Rattle.xd_top.specs.Named.{DidLocal, around}
-use Rattle.xd_linked.specs.Linked.{EndedLink}
+use Rattle.xd_dist.specs.Linked.{EndedLink}
 use Rattle.xd_top.specs.Outside.{Outside, workplace}
 use Rattle.xd_top.specs.Refusal.{Refuses}
 use Rattle.xd_top.specs.Wire.{DidWire}

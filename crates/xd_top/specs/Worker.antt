@@ -7,10 +7,10 @@ use Rattle.xd_link.specs.FreshLink.{unused}
 use Rattle.xd_link.specs.Source.{Supply}
 use Rattle.xd_link.specs.Starter.{with_failure, with_start}
 use Rattle.xd_link.specs.declared.place.Place.{Place}
-use Rattle.xd_listen.specs.Complete.{AreGood, AreStill, GoesWrong, IsCalm}
-use Rattle.xd_listen.specs.Ends.{Scene, Served, scene}
+use Rattle.xd_worker_serve.specs.Complete.{AreGood, AreStill, GoesWrong, IsCalm}
+use Rattle.xd_worker_serve.specs.Ends.{Scene, Served, scene}
 use Rattle.xd_link.specs.Spring.{Spring}
-use Rattle.xd_linked.specs.Linked.{EndedLink}
+use Rattle.xd_dist.specs.Linked.{EndedLink}
 use Rattle.xd_top.specs.Outside.{Workplace}
 
 -- all the bytes of a link that had given none before

@@ -1,6 +1,6 @@
 // The top call.
 ghost use Rattle.std.specs.Prelude.{◌≡◌, [], false, IfNone, IfOk};
-ghost use Rattle.xd_linked.specs.Linked.{ended_links};
+ghost use Rattle.xd_dist.specs.Linked.{ended_links};
 ghost use Rattle.xd_edge.specs.Clock.{ticking};
 ghost use Rattle.xd_top.specs.Top.{Did, has_links};
 ghost use Rattle.xd_words.specs.Words.{plan_of};
@@ -12,14 +12,14 @@ use crate::worker::serve_at;
 use std::alloc::Global;
 use std::sync::Wait;
 use xd_crew::Crew;
+use xd_dist::{LinkedSuite, run_linked};
 use xd_edge::{Children, Clock, Files, OutOfMemory, Sink, Text};
 use xd_group::LinkEnd;
 use xd_journal::Journal;
 use xd_link::{Place, Starter};
-use xd_linked::{LinkedSuite, run_linked};
 use xd_reader::Reader;
-use xd_runner::Runner;
 use xd_words::{Plan, plan_of};
+use xd_worker_runner::Runner;
 
 /// What a call came to.
 #[derive(Drop)]

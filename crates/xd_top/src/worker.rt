@@ -1,6 +1,6 @@
 // The commands that serve one link as a worker.
 ghost use Rattle.std.specs.Prelude.{◌≡◌, None, IfOk};
-ghost use Rattle.xd_linked.specs.Linked.{ended_links};
+ghost use Rattle.xd_dist.specs.Linked.{ended_links};
 ghost use Rattle.xd_edge.specs.Clock.{ticking};
 ghost use Rattle.xd_top.specs.Worker.{DidServe};
 
@@ -11,9 +11,9 @@ use xd_crew::Crew;
 use xd_edge::{Children, Clock, Files, OutOfMemory};
 use xd_group::LinkEnd;
 use xd_link::{Place, StartFault, Starter};
-use xd_listen::serve;
 use xd_reader::Reader;
-use xd_runner::Runner;
+use xd_worker_runner::Runner;
+use xd_worker_serve::serve;
 
 /// Starts a link to this place and serves it. Where it cannot be started the status is 3.
 pub fn serve_at<

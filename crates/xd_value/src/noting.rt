@@ -1,7 +1,7 @@
 // The faults of a value that has no payload, noted in one walk.
 ghost use Rattle.std.specs.Prelude.{◌≡◌, ◌&&◌, not, nat_lt, true, IfOk};
 ghost use Rattle.xd_value.specs.Canonical.{all_pass, trees_pass, pairs_pass, keys_hashable};
-ghost use Rattle.xd_value.specs.Noted.{Noted};
+ghost use Rattle.xd_value.specs.inner.Noted.{Noted};
 ghost use Rattle.xd_value.specs.Tree.{depth, list, set, dict};
 ghost use Rattle.xd_value.specs.View.{view, views, pair_views};
 

@@ -7,12 +7,12 @@ use Rattle.xd_frame.specs.Message.{MessageView}
 use Rattle.xd_frame.specs.Stream.{Rest, messages, rest, rest_of, left_over, message_of, FrontSays}
 use Rattle.xd_value.specs.declared.fault.LoadWhat.{LoadWhat}
 use Rattle.xd_edge.specs.declared.refusals.OutOfMemory.{OutOfMemory}
-use Rattle.xd_wire.specs.Payloads.{ReadsOne}
+use Rattle.xd_wire.specs.inner.Payloads.{ReadsOne}
 use Rattle.xd_wire.specs.Names.{what_name}
 use Rattle.xd_wire.specs.WireText.{has_value, fault_line, message_with, IsLine, IsPayloadFault, IsTextFrom}
 use Rattle.xd_wire.specs.declared.step.Then.{Then}
 use Rattle.xd_wire.specs.declared.step.Then.TheVariants.{End}
-use Rattle.xd_wire.specs.Lines.{LeadsTo, texts_at, texts_after, ended, Continues}
+use Rattle.xd_wire.specs.inner.Lines.{LeadsTo, texts_at, texts_after, ended, Continues}
 use Rattle.xd_wire.proofs.TextLemmas.{one_line, line_no_fault, one_place}
 
 -- the texts of a message and those after it are its line and a text of those

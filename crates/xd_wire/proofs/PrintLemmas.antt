@@ -4,7 +4,7 @@ use Rattle.std.specs.Prelude.{OnOk, OnErr, is_err, is_ok}
 use Rattle.std.proofs.lemmas.List.{append-nil}
 use Rattle.xd_edge.specs.Sink.{Sunk, Took, TookPart, Printed, with_flush}
 use Rattle.xd_edge.proofs.SinkLemmas.{took_nothing, took_more, took_then_part, part_of_more, took_is_part}
-use Rattle.xd_wire.specs.Lines.{Texts, Continues, ended, texts_at}
+use Rattle.xd_wire.specs.inner.Lines.{Texts, Continues, ended, texts_at}
 use Rattle.xd_wire.specs.WireText.{IsWireText}
 use Rattle.xd_wire.specs.Printing.{TookUpTo, TookPartOfEach, HasText, Prints, end_with}
 

@@ -6,8 +6,8 @@ use Rattle.xd_frame.specs.Stream.{AreBytes, messages, left_over, rest, Rest, Cle
 use Rattle.xd_value.specs.declared.fault.LoadWhat.{LoadWhat}
 use Rattle.xd_value.specs.Tree.{Tree}
 use Rattle.xd_value.specs.Payload.{IsPayload, FirstFault}
-use Rattle.xd_show.specs.Show.{shown}
-use Rattle.xd_wire.specs.Payloads.{ReadsOne}
+use Rattle.xd_value_show.specs.Show.{shown}
+use Rattle.xd_wire.specs.inner.Payloads.{ReadsOne}
 use Rattle.xd_wire.specs.Names.{what_name, frame_fault_name}
 use Rattle.xd_wire.specs.WireText.{has_value, plain_line, value_line, fault_line, LineBy, FaultBy, IsLine, IsPayloadFault, IsEnd, IsTextFrom, IsWireText}
 

@@ -1,5 +1,4 @@
 pub mod Names
 pub mod WireText
-pub mod Payloads
-pub mod Lines
 pub mod Printing
+pub mod inner

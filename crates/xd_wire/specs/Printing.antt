@@ -6,7 +6,7 @@ use Rattle.xd_edge.specs.declared.refusals.OutOfMemory.{OutOfMemory}
 use Rattle.xd_wire.specs.declared.print.WireEnd.{WireEnd}
 use Rattle.xd_wire.specs.declared.print.WireEnd.TheVariants.{Whole, Faulty, OutFailed}
 use Rattle.xd_wire.specs.WireText.{IsWireText}
-use Rattle.xd_wire.specs.Lines.{Texts, Continues, ended}
+use Rattle.xd_wire.specs.inner.Lines.{Texts, Continues, ended}
 
 -- where the printing came to its end, the file has a text, with a fault where the answer says so
 abbrev pub HasText : List ℕ → WireEnd → Type 0

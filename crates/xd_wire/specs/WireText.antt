@@ -9,7 +9,7 @@ use Rattle.xd_frame.specs.Stream.{messages, rest, Rest, Clean, Unfinished, Refus
 use Rattle.xd_value.specs.declared.fault.LoadWhat.{LoadWhat}
 use Rattle.xd_value.specs.Tree.{Tree}
 use Rattle.xd_value.specs.Payload.{IsPayload, FirstFault}
-use Rattle.xd_show.specs.Show.{shown}
+use Rattle.xd_value_show.specs.Show.{shown}
 use Rattle.xd_wire.specs.Names.{kind_name, frame_fault_name, what_name}
 
 -- the message of a header and this payload

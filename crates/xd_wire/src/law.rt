@@ -1,7 +1,7 @@
 // Laws over message files.
 ghost use Rattle.std.specs.Prelude.{◌≡◌, ℕ, List, Bool};
 ghost use Rattle.xd_frame.specs.Stream.{AreBytes};
-ghost use Rattle.xd_wire.specs.Payloads.{ReadsOne};
+ghost use Rattle.xd_wire.specs.inner.Payloads.{ReadsOne};
 ghost use Rattle.xd_wire.specs.WireText.{IsWireText};
 
 use xd_frame::messages_are_the_longest;

@@ -1,19 +1,19 @@
 // One message as a line.
 ghost use Rattle.std.specs.Prelude.{◌≡◌, ◌++◌, ◌∷◌, [], IfOk, OnOk, length, string_bytes, encode_utf8_all};
 ghost use Rattle.std.specs.Fmt.{decimal};
-ghost use Rattle.xd_show.specs.Show.{shown};
+ghost use Rattle.xd_value_show.specs.Show.{shown};
 ghost use Rattle.xd_value.specs.View.{view};
 ghost use Rattle.xd_wire.specs.WireText.{has_value, line_start, message_with};
-ghost use Rattle.xd_wire.specs.Lines.{IsLineOf};
+ghost use Rattle.xd_wire.specs.inner.Lines.{IsLineOf};
 
 use crate::names::name_of_kind;
 use itoa::Buffer;
 use std::alloc::Global;
 use xd_edge::OutOfMemory;
 use xd_frame::{Header, Kind};
-use xd_loads::loads;
-use xd_show::show;
 use xd_value::{LoadFault, LoadWhat, Value};
+use xd_value_loads::loads;
+use xd_value_show::show;
 
 /// What a message is printed as: a line, or the first fault of its payload and the place of that there.
 #[derive(Clone, Copy)]

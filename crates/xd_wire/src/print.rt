@@ -2,7 +2,7 @@
 ghost use Rattle.std.specs.Prelude.{◌≡◌, ◌≢◌, ◌≤◌, ℕ, List, Bool, Ok, IfOk, OnOk, OnErr};
 ghost use Rattle.xd_edge.specs.Faults.{Rose};
 ghost use Rattle.xd_wire.specs.WireText.{IsWireText};
-ghost use Rattle.xd_wire.specs.Lines.{texts_at};
+ghost use Rattle.xd_wire.specs.inner.Lines.{texts_at};
 ghost use Rattle.xd_wire.specs.Printing.{HasText, Prints, Leaves, end_with};
 
 use crate::step::{Then, step_at};

@@ -1,7 +1,7 @@
 // What stands at a place of a file of messages.
 ghost use Rattle.std.specs.Prelude.{◌≡◌, ◌≤◌, [], true, false, IfOk, OnOk, length, string_bytes};
 ghost use Rattle.xd_wire.specs.WireText.{fault_line};
-ghost use Rattle.xd_wire.specs.Lines.{LeadsTo, BeginsAfter};
+ghost use Rattle.xd_wire.specs.inner.Lines.{LeadsTo, BeginsAfter};
 
 use crate::law::a_payload_reads_one;
 use crate::line::{Line, line_of};

@@ -2,14 +2,14 @@
 use Rattle.std.proofs.Common.{Bool, true, false, Option, Some, None}
 use Rattle.std.specs.Prelude.{if◌then◌else◌}
 use Rattle.xd_value.specs.Tree.{Tree, Pairs, none, truth, int, bytes, text, list, tuple, set, frozenset, dict, channel, no_trees, tree}
-use Rattle.xd_gateway.specs.Calls.{has_text_keys}
-use Rattle.xd_gateway.specs.declared.function.Called.{Called}
-use Rattle.xd_gateway.specs.declared.function.Called.TheVariants.{Runs, Refused}
-use Rattle.xd_gateway.specs.declared.function.CallFault.TheVariants.{BadCall, SourceText}
-use Rattle.xd_gateway.specs.declared.function.Function.TheVariants as function
-use Rattle.xd_gateway.specs.declared.function.FunctionName.{FunctionName}
-use Rattle.xd_gateway.specs.declared.function.FunctionName.TheVariants as name
-use Rattle.xd_gateway.specs.Functions.{called_in, call_of, has_no_source, named, name_of, with_value, with_kwargs, function_of}
+use Rattle.xd_commands.specs.Calls.{has_text_keys}
+use Rattle.xd_commands.specs.declared.function.Called.{Called}
+use Rattle.xd_commands.specs.declared.function.Called.TheVariants.{Runs, Refused}
+use Rattle.xd_commands.specs.declared.function.CallFault.TheVariants.{BadCall, SourceText}
+use Rattle.xd_commands.specs.declared.function.Function.TheVariants as function
+use Rattle.xd_commands.specs.declared.function.FunctionName.{FunctionName}
+use Rattle.xd_commands.specs.declared.function.FunctionName.TheVariants as name
+use Rattle.xd_commands.specs.Functions.{called_in, call_of, has_no_source, named, name_of, with_value, with_kwargs, function_of}
 
 -- A call that is no other call of `run_tests`.
 abbrev pub IsOther : Called → Type 0

@@ -8,23 +8,23 @@ use Rattle.xd_suite.specs.declared.test.Test.{Test}
 use Rattle.xd_suite.specs.Tests.{ids_by_mode}
 use Rattle.xd_edge.specs.declared.mode.ModeKind.{ModeKind}
 use Rattle.xd_journal.specs.declared.news.What.TheVariants.{Collected}
-use Rattle.xd_gateway.specs.Orders.{tree_order}
-use Rattle.xd_gateway.specs.Events.{event_tree}
-use Rattle.xd_run_tests.specs.declared.ask.Ask.{Ask}
-use Rattle.xd_run_tests.specs.declared.ask.Ask.TheVariants.{Tell, Piece, CloseLog, End}
-use Rattle.xd_run_tests.specs.declared.input.Input.{Input}
-use Rattle.xd_run_tests.specs.declared.input.Input.TheVariants as input
-use Rattle.xd_run_tests.specs.declared.phase.Phase.{Phase}
-use Rattle.xd_run_tests.specs.declared.phase.Phase.TheVariants.{Awaiting, Serving, Stopped, Over}
-use Rattle.xd_run_tests.specs.declared.phase.Phase.TheVariants as phase
-use Rattle.xd_run_tests.specs.History.{call_after, turn_after, size_opened, size_after}
-use Rattle.xd_run_tests.proofs.Within.{all_known}
-use Rattle.xd_gateway.specs.declared.function.Called.{Called}
-use Rattle.xd_gateway.specs.declared.function.Called.TheVariants.{Runs, Refused}
-use Rattle.xd_gateway.specs.declared.function.Function.TheVariants as function
+use Rattle.xd_commands.specs.Orders.{tree_order}
+use Rattle.xd_commands.specs.Events.{event_tree}
+use Rattle.xd_worker_tests.specs.declared.ask.Ask.{Ask}
+use Rattle.xd_worker_tests.specs.declared.ask.Ask.TheVariants.{Tell, Piece, CloseLog, End}
+use Rattle.xd_worker_tests.specs.declared.input.Input.{Input}
+use Rattle.xd_worker_tests.specs.declared.input.Input.TheVariants as input
+use Rattle.xd_worker_tests.specs.declared.phase.Phase.{Phase}
+use Rattle.xd_worker_tests.specs.declared.phase.Phase.TheVariants.{Awaiting, Serving, Stopped, Over}
+use Rattle.xd_worker_tests.specs.declared.phase.Phase.TheVariants as phase
+use Rattle.xd_worker_tests.specs.History.{call_after, turn_after, size_opened, size_after}
+use Rattle.xd_worker_tests.proofs.Within.{all_known}
+use Rattle.xd_commands.specs.declared.function.Called.{Called}
+use Rattle.xd_commands.specs.declared.function.Called.TheVariants.{Runs, Refused}
+use Rattle.xd_commands.specs.declared.function.Function.TheVariants as function
 use Rattle.xd_worker.specs.declared.talk.Sent.{Sent}
 use Rattle.xd_worker.specs.declared.talk.Sent.TheVariants as how
-use Rattle.xd_gateway.specs.Functions.{called_in}
+use Rattle.xd_commands.specs.Functions.{called_in}
 use Rattle.xd_factory.specs.SideTable.{heard_of_message, answer, lost}
 use Rattle.xd_worker.specs.Talk.{sent_how, payload_on}
 use Rattle.xd_worker.specs.Worker.{Service, WorkerTurn, worker_turn_of, running_in}

@@ -16,8 +16,8 @@ use Rattle.xd_factory.specs.Numbers.{is_mine, is_in}
 use Rattle.xd_factory.specs.Said.{Said, Status, Exec, Data, Close, Last, Terminate, names_of}
 use Rattle.xd_factory.specs.Slot.{Slot, Unseen, Here, Gone, is_here, item_slot, peer_closed_slot, peer_last_slot, lost_slot, gone_where_done, function_ended_slot}
 use Rattle.xd_factory.specs.Table.{named_in, told_slot}
-use Rattle.xd_run_tests.specs.Line.{number_of_log}
-use Rattle.xd_run_tests.proofs.Once.{and_last}
+use Rattle.xd_worker_tests.specs.Line.{number_of_log}
+use Rattle.xd_worker_tests.proofs.Once.{and_last}
 use Rattle.xd_factory.specs.SideTable.{ChannelTable, Counts, changed_at, opened, heard_of_message, lost}
 
 -- ---- numbers that are in a list once

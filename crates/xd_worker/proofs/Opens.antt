@@ -3,7 +3,7 @@ use Rattle.std.proofs.Common.{◌≡◌, ℕ, ◌+◌, ◌<◌, ◌≤◌, List,
 use Rattle.std.specs.Prelude.{◌==◌, ◌-◌, nat_lt, is_some, if◌then◌else◌, codes}
 use Rattle.xd_value.specs.Tree.{Tree, Trees, Pairs}
 use Rattle.xd_value.specs.Tree as tree
-use Rattle.xd_gateway.specs.Calls.{has_text_keys}
+use Rattle.xd_commands.specs.Calls.{has_text_keys}
 use Rattle.xd_edge.specs.declared.mode.ModeKind.{ModeKind}
 use Rattle.xd_channel.specs.State.{fresh_end, end_of, put_gives}
 use Rattle.xd_channel.specs.declared.end.End.{End}
@@ -20,27 +20,27 @@ use Rattle.xd_factory.specs.Slot.{Slot, Unseen, Here, Gone, is_here, is_new, nam
 use Rattle.xd_factory.specs.Table.{arrived_answer, ended_answer, handed_answer, end_answer}
 use Rattle.xd_journal.specs.declared.news.What.{What}
 use Rattle.xd_journal.specs.declared.news.What.TheVariants as what
-use Rattle.xd_gateway.specs.Orders.{tree_order}
-use Rattle.xd_gateway.specs.Events.{event_tree}
-use Rattle.xd_run_tests.specs.declared.ask.Ask.{Ask}
-use Rattle.xd_run_tests.specs.declared.ask.Ask.TheVariants.{Tell, Piece, CloseLog}
-use Rattle.xd_run_tests.specs.declared.ask.Ask.TheVariants as ask
-use Rattle.xd_run_tests.specs.declared.input.Input.{Input}
-use Rattle.xd_run_tests.specs.declared.input.Input.TheVariants as input
-use Rattle.xd_run_tests.specs.declared.phase.Phase.TheVariants.{Stopped}
-use Rattle.xd_run_tests.specs.Line.{FunctionCall, number_of_log, running_test}
-use Rattle.xd_run_tests.specs.History.{Given, call_after, turn_after}
-use Rattle.xd_run_tests.specs.Logs.{Logs, begun_tests, logs_of, LogStep, LogSteps}
-use Rattle.xd_run_tests.proofs.Logs.{one_log, is_stopped, stops, goes}
-use Rattle.xd_gateway.specs.declared.function.Called.{Called}
-use Rattle.xd_gateway.specs.declared.function.Called.TheVariants.{Runs, Refused}
-use Rattle.xd_gateway.specs.declared.function.Function.TheVariants as function
+use Rattle.xd_commands.specs.Orders.{tree_order}
+use Rattle.xd_commands.specs.Events.{event_tree}
+use Rattle.xd_worker_tests.specs.declared.ask.Ask.{Ask}
+use Rattle.xd_worker_tests.specs.declared.ask.Ask.TheVariants.{Tell, Piece, CloseLog}
+use Rattle.xd_worker_tests.specs.declared.ask.Ask.TheVariants as ask
+use Rattle.xd_worker_tests.specs.declared.input.Input.{Input}
+use Rattle.xd_worker_tests.specs.declared.input.Input.TheVariants as input
+use Rattle.xd_worker_tests.specs.declared.phase.Phase.TheVariants.{Stopped}
+use Rattle.xd_worker_tests.specs.Line.{FunctionCall, number_of_log, running_test}
+use Rattle.xd_worker_tests.specs.History.{Given, call_after, turn_after}
+use Rattle.xd_worker_tests.specs.Logs.{Logs, begun_tests, logs_of, LogStep, LogSteps}
+use Rattle.xd_worker_tests.proofs.Logs.{one_log, is_stopped, stops, goes}
+use Rattle.xd_commands.specs.declared.function.Called.{Called}
+use Rattle.xd_commands.specs.declared.function.Called.TheVariants.{Runs, Refused}
+use Rattle.xd_commands.specs.declared.function.Function.TheVariants as function
 use Rattle.xd_worker.specs.declared.talk.Sent.{Sent}
 use Rattle.xd_worker.specs.declared.talk.Sent.TheVariants as how
-use Rattle.xd_gateway.specs.declared.function.CallFault.TheVariants.{BadCall, SourceText}
-use Rattle.xd_gateway.specs.declared.function.FunctionName.{FunctionName}
-use Rattle.xd_gateway.specs.declared.function.FunctionName.TheVariants as name
-use Rattle.xd_gateway.specs.Functions.{called_in, call_of, has_no_source, named, name_of, with_value, with_kwargs, function_of}
+use Rattle.xd_commands.specs.declared.function.CallFault.TheVariants.{BadCall, SourceText}
+use Rattle.xd_commands.specs.declared.function.FunctionName.{FunctionName}
+use Rattle.xd_commands.specs.declared.function.FunctionName.TheVariants as name
+use Rattle.xd_commands.specs.Functions.{called_in, call_of, has_no_source, named, name_of, with_value, with_kwargs, function_of}
 use Rattle.xd_factory.specs.SideTable.{ChannelTable, Counts, changed_at, opened, heard_of_message, answer, lost}
 use Rattle.xd_worker.specs.Table.{empty}
 use Rattle.xd_worker.specs.Talk.{Talk, told_tree, sent_how, payload_on, function_begun}

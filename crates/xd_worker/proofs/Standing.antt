@@ -9,16 +9,16 @@ use Rattle.xd_worker.specs.declared.talk.Sent.TheVariants as how
 use Rattle.xd_factory.specs.SideTable.{ChannelTable, Counts, channel_table, heard_of_message, answer, lost}
 use Rattle.xd_frame.specs.Message.{MessageView}
 use Rattle.xd_factory.specs.declared.side.Side.{Side}
-use Rattle.xd_run_tests.specs.declared.ask.Acts.{Acts}
-use Rattle.xd_run_tests.specs.declared.ask.Ask.{Ask}
-use Rattle.xd_run_tests.specs.declared.ask.Ask.TheVariants.{Tell, Piece, CloseLog, End}
-use Rattle.xd_run_tests.specs.declared.input.Input.{Input}
-use Rattle.xd_run_tests.specs.declared.input.Input.TheVariants as input
+use Rattle.xd_worker_tests.specs.declared.ask.Acts.{Acts}
+use Rattle.xd_worker_tests.specs.declared.ask.Ask.{Ask}
+use Rattle.xd_worker_tests.specs.declared.ask.Ask.TheVariants.{Tell, Piece, CloseLog, End}
+use Rattle.xd_worker_tests.specs.declared.input.Input.{Input}
+use Rattle.xd_worker_tests.specs.declared.input.Input.TheVariants as input
 use Rattle.xd_journal.specs.declared.news.What.{What}
 use Rattle.xd_journal.specs.declared.news.What.TheVariants.{Collected}
-use Rattle.xd_gateway.specs.Events.{event_tree}
-use Rattle.xd_run_tests.specs.declared.run_tests.RunTests.{RunTests}
-use Rattle.xd_run_tests.specs.History.{turn_after, StandsForGiven as Follows}
+use Rattle.xd_commands.specs.Events.{event_tree}
+use Rattle.xd_worker_tests.specs.declared.run_tests.RunTests.{RunTests}
+use Rattle.xd_worker_tests.specs.History.{turn_after, StandsForGiven as Follows}
 use Rattle.xd_worker.specs.declared.input.WorkerActions.{WorkerActions}
 use Rattle.xd_worker.specs.declared.tests_call.TestsCall.{TestsCall}
 use Rattle.xd_worker.specs.declared.tests_call.Fed.{Fed}

@@ -3,8 +3,8 @@ use Rattle.std.specs.Prelude.{◌≡◌, ◌≤◌, ◌<◌, ℕ, List, [], ◌�
 use Rattle.xd_factory.specs.declared.faults.SideFault.{SideFault}
 use Rattle.xd_factory.specs.declared.faults.SideFault.TheVariants as side
 use Rattle.xd_suite.specs.declared.test.Test.{Test}
-use Rattle.xd_run_tests.specs.declared.input.Input.{Input}
-use Rattle.xd_run_tests.specs.History.{Given, turn_after, StandsForGiven as Follows}
+use Rattle.xd_worker_tests.specs.declared.input.Input.{Input}
+use Rattle.xd_worker_tests.specs.History.{Given, turn_after, StandsForGiven as Follows}
 use Rattle.xd_value.specs.Tree.{Tree}
 use Rattle.xd_value.specs.declared.value.Value.{Value}
 use Rattle.xd_frame.specs.Message.{MessageView}

@@ -12,10 +12,10 @@ use Rattle.xd_factory.specs.Slot.{is_seen, function_ended_slot, hooked_slot}
 use Rattle.xd_factory.specs.Table.{sent_gives, send_refusal, closing_message, close_says, is_long}
 use Rattle.xd_journal.specs.declared.news.What.{What}
 use Rattle.xd_journal.specs.declared.news.What.TheVariants.{LogStart}
-use Rattle.xd_gateway.specs.Events.{event_tree}
+use Rattle.xd_commands.specs.Events.{event_tree}
 use Rattle.xd_worker.specs.declared.talk.Sent.{Sent}
 use Rattle.xd_worker.specs.declared.talk.Sent.TheVariants.{Said, LeftOut, Unwritten}
-use Rattle.xd_gateway.specs.Status.{status_tree}
+use Rattle.xd_commands.specs.Status.{status_tree}
 use Rattle.xd_factory.specs.SideTable.{ChannelTable, channel_table, changed_at, opened}
 
 -- the channels, and what was said so far

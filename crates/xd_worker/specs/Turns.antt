@@ -1,4 +1,4 @@
--- What each input makes a worker do. The rules of `run_tests` are those of xd_run_tests, and the rules of channels those
+-- What each input makes a worker do. The rules of `run_tests` are those of xd_worker_tests, and the rules of channels those
 -- of xd_factory; the functions `echo` and `fail` are choices of this project.
 use Rattle.std.specs.Prelude.{ℕ, ◌-◌, ◌==◌, nat_lt, not, List, [], ◌∷◌, ◌++◌, filter, Bool, true, false, Option, Some, None, Result, Ok, Err, unwrap_or, if◌then◌else◌, codes}
 use Rattle.xd_edge.specs.declared.mode.ModeKind.{ModeKind}
@@ -11,21 +11,21 @@ use Rattle.xd_suite.specs.declared.test.Test.{Test}
 use Rattle.xd_suite.specs.Tests.{ids_by_mode}
 use Rattle.xd_journal.specs.declared.entry.Outcome.{Outcome}
 use Rattle.xd_journal.specs.declared.news.What.TheVariants.{Ready, Collected}
-use Rattle.xd_gateway.specs.Orders.{tree_order}
-use Rattle.xd_gateway.specs.Events.{event_tree}
-use Rattle.xd_run_tests.specs.declared.ask.Ask.{Ask}
-use Rattle.xd_run_tests.specs.declared.ask.Ask.TheVariants.{Tell, Piece, CloseLog, End}
-use Rattle.xd_run_tests.specs.declared.input.Input.{Input}
-use Rattle.xd_run_tests.specs.declared.input.Input.TheVariants as input
-use Rattle.xd_run_tests.specs.Turns.{CallTurn as Act}
-use Rattle.xd_run_tests.specs.History.{Given, turn_after}
-use Rattle.xd_gateway.specs.declared.function.CallFault.{CallFault}
-use Rattle.xd_gateway.specs.declared.function.Called.{Called}
-use Rattle.xd_gateway.specs.declared.function.Called.TheVariants.{Runs, Refused}
-use Rattle.xd_gateway.specs.declared.function.Function.TheVariants as function
+use Rattle.xd_commands.specs.Orders.{tree_order}
+use Rattle.xd_commands.specs.Events.{event_tree}
+use Rattle.xd_worker_tests.specs.declared.ask.Ask.{Ask}
+use Rattle.xd_worker_tests.specs.declared.ask.Ask.TheVariants.{Tell, Piece, CloseLog, End}
+use Rattle.xd_worker_tests.specs.declared.input.Input.{Input}
+use Rattle.xd_worker_tests.specs.declared.input.Input.TheVariants as input
+use Rattle.xd_worker_tests.specs.Turns.{CallTurn as Act}
+use Rattle.xd_worker_tests.specs.History.{Given, turn_after}
+use Rattle.xd_commands.specs.declared.function.CallFault.{CallFault}
+use Rattle.xd_commands.specs.declared.function.Called.{Called}
+use Rattle.xd_commands.specs.declared.function.Called.TheVariants.{Runs, Refused}
+use Rattle.xd_commands.specs.declared.function.Function.TheVariants as function
 use Rattle.xd_worker.specs.declared.talk.Sent.{Sent}
 use Rattle.xd_worker.specs.declared.talk.Sent.TheVariants as how
-use Rattle.xd_gateway.specs.Functions.{called_in, call_fault_text}
+use Rattle.xd_commands.specs.Functions.{called_in, call_fault_text}
 use Rattle.xd_factory.specs.SideTable.{heard_of_message, answer, lost}
 use Rattle.xd_worker.specs.Talk.{Talk, sent, sent_how, payload_on, event_told, opening, log_closed, function_ended, function_begun, status_told}
 use Rattle.xd_worker.specs.Worker.{Service, WorkerTurn, running_in, executing, logs_opened_by}

@@ -4,8 +4,8 @@ use Rattle.xd_edge.specs.declared.mode.ModeKind.{ModeKind}
 use Rattle.xd_suite.specs.declared.test.Test.{Test}
 use Rattle.xd_journal.specs.declared.news.What.{What}
 use Rattle.xd_journal.specs.declared.news.What.TheVariants.{LogStart}
-use Rattle.xd_run_tests.specs.Line.{running_test}
-use Rattle.xd_run_tests.specs.History.{Given, call_after}
+use Rattle.xd_worker_tests.specs.Line.{running_test}
+use Rattle.xd_worker_tests.specs.History.{Given, call_after}
 use Rattle.xd_factory.specs.SideTable.{ChannelTable}
 use Rattle.xd_worker.specs.Table.{empty}
 use Rattle.xd_worker.specs.Talk.{Talk}

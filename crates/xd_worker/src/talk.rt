@@ -12,10 +12,10 @@ ghost use Rattle.xd_worker.specs.Logs.{CanOpen, AllOpen};
 ghost use Rattle.xd_worker.specs.Talk.{talk_of, sent, sent_how, payload_on, event_told, opening, log_closed, function_ended, status_told};
 
 use std::alloc::Global;
+use xd_commands::{event_value, status_value};
 use xd_edge::{Blob, OutOfMemory, Text};
 use xd_factory::{CloseFault, OpenFault, SendFault, Side};
 use xd_frame::{Kind, Message, Messages};
-use xd_gateway::{event_value, status_value};
 use xd_journal::What;
 use xd_value::{DumpFault, Value, dumps};
 

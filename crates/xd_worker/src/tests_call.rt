@@ -1,11 +1,11 @@
 // The call of `run_tests` on a link.
 ghost use Rattle.std.specs.Prelude.{◌≡◌, IfOk, Option, Some};
-ghost use Rattle.xd_run_tests.specs.Turns.{CanTake};
-ghost use Rattle.xd_run_tests.specs.declared.input.Input.{Input};
+ghost use Rattle.xd_worker_tests.specs.Turns.{CanTake};
+ghost use Rattle.xd_worker_tests.specs.declared.input.Input.{Input};
 
 use xd_edge::{ModeKind, OutOfMemory};
 use xd_factory::MAX_ENTRIES;
-use xd_run_tests::{Acts, Input, RunTests};
+use xd_worker_tests::{Acts, Input, RunTests};
 
 /// The call of `run_tests` on a link: its channel, the mode whose ids it sends, and whether it has ended.
 #[derive(Drop)]

@@ -12,8 +12,8 @@ use std::alloc::Global;
 use xd_edge::{OutOfMemory, Text};
 use xd_factory::{Parity, Side};
 use xd_frame::Messages;
-use xd_run_tests::{Ask, Input};
 use xd_suite::Suite;
+use xd_worker_tests::{Ask, Input};
 
 /// What a worker asked for, and what did not come yet: the end of the running test, and a suite.
 #[derive(Clone, Copy, Debug, PartialEq, Eq)]
@@ -39,7 +39,7 @@ pub struct WorkerCore {
 }
 
 impl WorkerCore {
-    ghost use Rattle.xd_run_tests.specs.Turns.{CanTake};
+    ghost use Rattle.xd_worker_tests.specs.Turns.{CanTake};
     ghost use Rattle.xd_factory.specs.View.{slot_of_number};
     ghost use Rattle.xd_factory.specs.declared.faults.SideFault.{SideFault};
     ghost use Rattle.xd_suite.specs.Tests.{run_at};

@@ -1,6 +1,6 @@
 // A mode of the tests' own. It has no rule: it hands its calls on to another mode, and after so many of them it runs out of
 // memory. It stands for what that mode stands for, so what a session does with it rests on the words of a mode alone.
-ghost use Rattle.xd_ledger.specs.Plan.{Plan};
+ghost use Rattle.xd_run.specs.Plan.{Plan};
 
 use std::alloc::Global;
 use xd_edge::{OutOfMemory, Text};

@@ -9,7 +9,7 @@
 // newline.
 ghost use Rattle.std.specs.Prelude.{◌≡◌, IfOk};
 ghost use Rattle.xd_edge.specs.declared.mode.ModeKind.TheVariants.{WorkSteal};
-ghost use Rattle.xd_ledger.specs.State.{no_one};
+ghost use Rattle.xd_run.specs.State.{no_one};
 ghost use Rattle.xd_session.specs.Stands.{CanBegin};
 
 use crate::drive::limited::Limited;
@@ -23,10 +23,10 @@ use xd_journal::Settings;
 use xd_ledger::Mode;
 use xd_load::{Each, Load};
 use xd_memory::MemSink;
-use xd_note::Log;
 use xd_scope::Scope;
 use xd_session::Session;
 use xd_steal::Steal;
+use xd_trace::Trace;
 
 fn mode_of(word: Option<&str>) -> ModeKind {
     match word {
@@ -162,7 +162,7 @@ fn run_in<R: Wait, M: Mode>(
     };
     let mut hub = ListedHub::new(alloc, news_of(alloc, news)?, refused);
     let mut out = output_that_fails(alloc, words)?;
-    let mut moments = Log::new(alloc)?;
+    let mut moments = Trace::new(alloc)?;
     let run = drive(rt, alloc, session, &mut hub, &mut out, &mut moments);
     let mut calls = String::new(alloc);
     show_entries(alloc, &mut calls, &hub.calls)?;

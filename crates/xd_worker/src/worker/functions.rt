@@ -6,15 +6,15 @@ use super::WorkerCore;
 use crate::input::WorkerActions;
 use crate::talk::{Sent, begin_function, end_function, send, tell};
 use crate::tests_call::TestsCall;
+use xd_commands::{CallFault, Called, Function, fail_word, long_item_word, read_call};
 use xd_edge::{ModeKind, OutOfMemory, Text};
-use xd_gateway::{CallFault, Called, Function, fail_word, long_item_word, read_call};
 use xd_journal::What;
-use xd_run_tests::RunTests;
 use xd_value::Value;
+use xd_worker_tests::RunTests;
 
 impl WorkerCore {
-    ghost use Rattle.xd_gateway.specs.Functions.{called_in, call_fault_text};
-    ghost use Rattle.xd_gateway.specs.declared.function.Called.TheVariants.{Runs};
+    ghost use Rattle.xd_commands.specs.Functions.{called_in, call_fault_text};
+    ghost use Rattle.xd_commands.specs.declared.function.Called.TheVariants.{Runs};
     ghost use Rattle.xd_worker.specs.Worker.{WorkerTurn};
     ghost use Rattle.xd_worker.specs.Turns.{refused, failed, echo_begun, tests_begun, called, is_called, without_one, echo_ended, echoed};
     ghost use Rattle.xd_worker.specs.Stands.{IsWorkerTurn};

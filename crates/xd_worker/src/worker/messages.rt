@@ -8,12 +8,12 @@ ghost use Rattle.xd_factory.specs.SideTable.{channel_table, lost, Counts};
 use super::WorkerCore;
 use crate::input::{WorkerActions, WorkerFault};
 use crate::talk::tell_status;
+use xd_commands::value_order;
 use xd_edge::OutOfMemory;
 use xd_factory::{Side, SideFault, Taken};
 use xd_frame::Message;
-use xd_gateway::value_order;
-use xd_run_tests::Input;
 use xd_value::Value;
+use xd_worker_tests::Input;
 
 impl WorkerCore {
     ghost use Rattle.xd_factory.specs.View.{slot_of_number};

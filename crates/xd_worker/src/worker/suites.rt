@@ -4,12 +4,12 @@ ghost use Rattle.std.specs.Prelude.{◌≡◌, IfOk, OnOk, IsSome, length, ◌<�
 use super::WorkerCore;
 use crate::input::WorkerActions;
 use std::alloc::Global;
+use xd_commands::{event_value, large_suite_word, unread_suite_word};
 use xd_edge::{Blob, OutOfMemory, Text, Texts};
-use xd_gateway::{event_value, large_suite_word, unread_suite_word};
 use xd_journal::{Outcome, What};
-use xd_run_tests::Input;
 use xd_suite::{Suite, SuiteRefusal};
 use xd_value::{DumpFault, dumps};
+use xd_worker_tests::Input;
 
 impl WorkerCore {
     ghost use Rattle.xd_worker.specs.declared.input.WorkerInput.TheVariants.{SuiteBytes, SuiteTooLarge, SuiteUnread, Output, ChildDone};
@@ -176,11 +176,11 @@ impl WorkerCore {
     }
 }
 
-ghost use Rattle.xd_run_tests.specs.Turns.{CanTake};
+ghost use Rattle.xd_worker_tests.specs.Turns.{CanTake};
 ghost use Rattle.xd_worker.specs.Turns.{suite_input, is_written};
 ghost use Rattle.xd_journal.specs.declared.news.What.TheVariants.{Collected};
 ghost use Rattle.xd_worker.specs.History.{IsRead, IsCollected};
-ghost use Rattle.xd_gateway.specs.Events.{event_tree};
+ghost use Rattle.xd_commands.specs.Events.{event_tree};
 
 // The bytes of a suite file as a suite, or why they are none.
 fn read_suite(alloc: Global, bytes: &Blob) -> Result<Result<Suite, Text>, OutOfMemory>

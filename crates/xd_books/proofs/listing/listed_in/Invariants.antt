@@ -1,5 +1,5 @@
 use Rattle.std.proofs.Common.{◌≡◌, drop}
-use Rattle.xd_ledger.specs.Collections.{listed_in}
+use Rattle.xd_run.specs.Collections.{listed_in}
 use Rattle.xd_books.proofs.listing.listed_in.Given as goal
 
 abbrev pub invariant-loop-listed : goal.invariant-loop-listed

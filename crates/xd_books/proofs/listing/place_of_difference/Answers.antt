@@ -1,6 +1,6 @@
 use Rattle.std.proofs.Common.{◌≡◌, ◌≢◌, length, drop, Some, sym, ◌∙◌, ap, arith}
 use Rattle.std.proofs.lemmas.List.{length-drop}
-use Rattle.xd_ledger.proofs.Changed.{end_differs}
+use Rattle.xd_run.proofs.Changed.{end_differs}
 use Rattle.xd_books.proofs.listing.place_of_difference.Goals as goal
 
 pub returns-else-first-other : goal.returns-else-first-other

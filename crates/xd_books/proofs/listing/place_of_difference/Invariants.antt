@@ -1,5 +1,5 @@
 use Rattle.std.proofs.Common.{◌≡◌, ◌+◌, drop, option_map}
-use Rattle.xd_ledger.specs.Collections.{differ_at}
+use Rattle.xd_run.specs.Collections.{differ_at}
 use Rattle.xd_books.proofs.listing.place_of_difference.Given as goal
 
 abbrev pub invariant-loop-i : goal.invariant-loop-i

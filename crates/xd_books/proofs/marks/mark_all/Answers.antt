@@ -1,6 +1,6 @@
 use Rattle.std.proofs.Common.{arith, length, ◌<◌}
-use Rattle.xd_ledger.specs.Workers.{made}
-use Rattle.xd_ledger.proofs.Changed.{next_changed}
+use Rattle.xd_run.specs.Workers.{made}
+use Rattle.xd_run.proofs.Changed.{next_changed}
 use Rattle.xd_books.proofs.marks.mark_all.Goals as goal
 
 pub loop-i-preserved : goal.loop-i-preserved

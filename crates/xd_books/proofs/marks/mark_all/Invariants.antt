@@ -1,5 +1,5 @@
 use Rattle.std.proofs.Common.{◌≡◌, ◌++◌, map, take, drop}
-use Rattle.xd_ledger.specs.Workers.{made}
+use Rattle.xd_run.specs.Workers.{made}
 use Rattle.xd_books.proofs.marks.mark_all.Given as goal
 
 abbrev pub invariant-loop-i : goal.invariant-loop-i

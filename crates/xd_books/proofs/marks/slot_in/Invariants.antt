@@ -1,5 +1,5 @@
 use Rattle.std.proofs.Common.{◌≡◌, drop}
-use Rattle.xd_ledger.specs.Workers.{slot_in}
+use Rattle.xd_run.specs.Workers.{slot_in}
 use Rattle.xd_books.proofs.marks.slot_in.Given as goal
 
 abbrev pub invariant-loop-member : goal.invariant-loop-member

@@ -1,5 +1,5 @@
 use Rattle.std.proofs.Common.{Bool, length, refl, sym, ap, ◌∙◌, subst, inl, inr}
-use Rattle.xd_ledger.specs.State.{after_entries, no_one}
+use Rattle.xd_run.specs.State.{after_entries, no_one}
 use Rattle.xd_report.specs.Lines.{lines_from}
 use Rattle.xd_drive.specs.Going.{TellsEntries, added_by, scene_of}
 use Rattle.xd_drive.proofs.InOrder.{notes-none, notes-turn}

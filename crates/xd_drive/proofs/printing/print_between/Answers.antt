@@ -1,4 +1,4 @@
-use Rattle.xd_ledger.specs.State.{after_entries, no_one}
+use Rattle.xd_run.specs.State.{after_entries, no_one}
 use Rattle.std.proofs.Common.{take}
 use Rattle.xd_report.proofs.Endings.{ends_as}
 use Rattle.xd_drive.proofs.Follow.{follows-to}

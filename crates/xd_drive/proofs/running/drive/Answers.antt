@@ -1,5 +1,5 @@
 use Rattle.std.proofs.Common.{[], refl, sym, ◌∙◌}
-use Rattle.xd_laws.proofs.Logic.{differ}
+use Rattle.xd_run_laws.proofs.Logic.{differ}
 use Rattle.xd_report.proofs.Failures.{status-faulty}
 use Rattle.xd_session.proofs.Lawful.{stands-proper}
 use Rattle.xd_drive.specs.Going.{scene_of}

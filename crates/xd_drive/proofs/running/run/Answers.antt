@@ -1,8 +1,8 @@
 use Rattle.std.proofs.Common.{◌++◌, ◌∷◌, [], refl, sym, ◌∙◌, ap, subst}
 use Rattle.xd_journal.specs.declared.settings.Settings.{Settings}
-use Rattle.xd_ledger.specs.Proper.{IsProper}
+use Rattle.xd_run.specs.Proper.{IsProper}
 use Rattle.xd_drive.specs.Going.{scene_of}
-use Rattle.xd_drive.specs.Written.{is_whole}
+use Rattle.xd_drive.specs.inner.Written.{is_whole}
 use Rattle.xd_drive.proofs.InOrder.{order-first, order-next, order-over, order-stops}
 use Rattle.xd_drive.proofs.Loop.{begins, first-possible, going-next, over-ends, someone-first, someone-still, stop-by, takes-whole, whole-of}
 use Rattle.xd_drive.proofs.running.run.Goals as goal

@@ -1,6 +1,6 @@
 use Rattle.std.proofs.Common.{◌≡◌, ℕ, List, length, true}
 use Rattle.xd_journal.specs.declared.news.News.{News}
-use Rattle.xd_ledger.specs.State.{after_entries, no_one}
+use Rattle.xd_run.specs.State.{after_entries, no_one}
 use Rattle.xd_report.specs.Follows.{Follows}
 use Rattle.xd_drive.specs.Going.{Going, scene_of}
 use Rattle.xd_drive.specs.Moments.{ToldInOrder}

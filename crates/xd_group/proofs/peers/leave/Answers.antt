@@ -1,6 +1,6 @@
 use Rattle.std.proofs.Math.Logic.{∥∥₁_elim, ∥∥₁_map₂}
 use Rattle.std.proofs.Props.{props}
-use Rattle.xd_peer.specs.PeerView.{page_by}
+use Rattle.xd_group_peer.specs.PeerView.{page_by}
 use Rattle.xd_group.proofs.Running.{ends_so}
 use Rattle.xd_group.proofs.peers.leave.Goals as goal
 

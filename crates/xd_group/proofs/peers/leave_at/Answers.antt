@@ -1,6 +1,6 @@
 use Rattle.std.proofs.Common.{◌≤◌, ◌<◌, ap, length, refl, rules, sym, ◌∙◌}
 use Rattle.std.proofs.lemmas.Option.{slice_get_read}
-use Rattle.xd_peer.specs.PeerView.{is_ended_at, is_lost_at, page_by}
+use Rattle.xd_group_peer.specs.PeerView.{is_ended_at, is_lost_at, page_by}
 use Rattle.xd_group.proofs.LossFacts.{flag_kept, flag_none, flag_past, flag_there, lost_left}
 use Rattle.xd_group.proofs.PageFacts.{late_peer, peer_gone, peer_page}
 use Rattle.xd_group.proofs.peers.leave_at.Goals as goal

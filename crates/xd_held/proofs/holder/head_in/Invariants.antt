@@ -1,5 +1,5 @@
 use Rattle.std.proofs.Common.{◌≡◌, drop, map}
-use Rattle.xd_ledger.specs.Table.{held_in}
+use Rattle.xd_run.specs.Table.{held_in}
 use Rattle.xd_held.specs.Holders.{seat_of_holder}
 use Rattle.xd_held.proofs.holder.head_in.Given as goal
 

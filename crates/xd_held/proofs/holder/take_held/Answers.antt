@@ -1,5 +1,5 @@
 use Rattle.std.proofs.Common.{refl, ◌==◌, arith, if◌then◌else◌}
-use Rattle.xd_ledger.specs.Numbers.{without}
+use Rattle.xd_run.specs.Numbers.{without}
 use Rattle.xd_held.proofs.HolderFacts.{seat_changed}
 use Rattle.xd_held.proofs.holder.take_held.Goals as goal
 

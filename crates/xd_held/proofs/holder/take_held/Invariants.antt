@@ -1,6 +1,6 @@
 use Rattle.std.proofs.Common.{◌≡◌, ◌++◌, map, take, drop}
-use Rattle.xd_ledger.specs.Numbers.{without}
-use Rattle.xd_ledger.specs.Table.{at_seat}
+use Rattle.xd_run.specs.Numbers.{without}
+use Rattle.xd_run.specs.Table.{at_seat}
 use Rattle.xd_held.specs.Holders.{seat_of_holder}
 use Rattle.xd_held.proofs.holder.take_held.Given as goal
 

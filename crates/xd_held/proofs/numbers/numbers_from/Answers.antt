@@ -1,5 +1,5 @@
 use Rattle.std.proofs.Common.{rules}
-use Rattle.xd_ledger.proofs.Counts.{range_more}
+use Rattle.xd_run.proofs.Counts.{range_more}
 use Rattle.xd_held.proofs.numbers.numbers_from.Goals as goal
 
 pub loop-i-preserved : goal.loop-i-preserved

@@ -1,4 +1,4 @@
-use Rattle.xd_ledger.proofs.Counts.{range_next}
+use Rattle.xd_run.proofs.Counts.{range_next}
 use Rattle.xd_ledger.proofs.chains.add_range.Goals as goal
 
 pub loop-i-preserved : goal.loop-i-preserved

@@ -1,8 +1,8 @@
 use Rattle.std.proofs.Common.{◌≡◌, ◌<◌, length, get_or, ap, ◌∙◌, arith}
-use Rattle.xd_ledger.specs.Table.{workers_of}
-use Rattle.xd_ledger.specs.Turn.{Turn, shut}
+use Rattle.xd_run.specs.Table.{workers_of}
+use Rattle.xd_run.specs.Turn.{Turn, shut}
 use Rattle.xd_ledger.specs.Calls.{turn}
-use Rattle.xd_ledger.proofs.Turns.{in_rota-at, one_more, workers-shut_turn, some_plan}
+use Rattle.xd_run.proofs.Turns.{in_rota-at, one_more, workers-shut_turn, some_plan}
 use Rattle.xd_ledger.proofs.moves.shut_rota.Goals as goal
 
 pub shut-requires : goal.shut-requires

@@ -1,7 +1,7 @@
 use Rattle.std.proofs.Common.{◌≡◌, take}
-use Rattle.xd_ledger.specs.Table.{workers_of}
-use Rattle.xd_ledger.specs.Plan.{Plan}
-use Rattle.xd_ledger.specs.Turn.{in_turn, shut}
+use Rattle.xd_run.specs.Table.{workers_of}
+use Rattle.xd_run.specs.Plan.{Plan}
+use Rattle.xd_run.specs.Turn.{in_turn, shut}
 use Rattle.xd_ledger.specs.Calls.{turn}
 use Rattle.xd_ledger.proofs.moves.shut_rota.Given as goal
 

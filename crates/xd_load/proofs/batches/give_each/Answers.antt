@@ -1,9 +1,9 @@
 use Rattle.std.proofs.Common.{◌≡◌, ◌<◌, length, get_or, ap, ◌∙◌, arith}
-use Rattle.xd_ledger.specs.Table.{workers_of}
-use Rattle.xd_ledger.specs.Turn.{Turn}
-use Rattle.xd_ledger.specs.Load.{give_unless_shut}
+use Rattle.xd_run.specs.Table.{workers_of}
+use Rattle.xd_run.specs.Turn.{Turn}
+use Rattle.xd_run.specs.Load.{give_unless_shut}
 use Rattle.xd_ledger.specs.Calls.{turn}
-use Rattle.xd_ledger.proofs.Turns.{in_rota-at, one_more, some_plan}
+use Rattle.xd_run.proofs.Turns.{in_rota-at, one_more, some_plan}
 use Rattle.xd_load.proofs.Turns.{workers-give_unless}
 use Rattle.xd_load.proofs.batches.give_each.Goals as goal
 

@@ -1,8 +1,8 @@
 use Rattle.std.proofs.Common.{◌≡◌, take}
-use Rattle.xd_ledger.specs.Table.{workers_of}
-use Rattle.xd_ledger.specs.Plan.{Plan}
-use Rattle.xd_ledger.specs.Turn.{in_turn}
-use Rattle.xd_ledger.specs.Load.{give_unless_shut}
+use Rattle.xd_run.specs.Table.{workers_of}
+use Rattle.xd_run.specs.Plan.{Plan}
+use Rattle.xd_run.specs.Turn.{in_turn}
+use Rattle.xd_run.specs.Load.{give_unless_shut}
 use Rattle.xd_ledger.specs.Calls.{turn}
 use Rattle.xd_load.proofs.batches.give_each.Given as goal
 

@@ -1,9 +1,9 @@
 use Rattle.std.proofs.Common.{◌≡◌, ◌<◌, length, get_or, ap, ◌∙◌, arith}
-use Rattle.xd_ledger.specs.Table.{workers_of}
-use Rattle.xd_ledger.specs.Turn.{Turn}
-use Rattle.xd_ledger.specs.Load.{load_refill}
+use Rattle.xd_run.specs.Table.{workers_of}
+use Rattle.xd_run.specs.Turn.{Turn}
+use Rattle.xd_run.specs.Load.{load_refill}
 use Rattle.xd_ledger.specs.Calls.{turn}
-use Rattle.xd_ledger.proofs.Turns.{in_rota-at, one_more}
+use Rattle.xd_run.proofs.Turns.{in_rota-at, one_more}
 use Rattle.xd_load.proofs.Turns.{workers-refill, load_plan, load_plan-stands}
 use Rattle.xd_load.proofs.batches.refill_each.Goals as goal
 

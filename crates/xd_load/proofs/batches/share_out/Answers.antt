@@ -1,6 +1,6 @@
 use Rattle.std.proofs.Common.{◌*◌, ◌<◌, length, arith}
 use Rattle.std.proofs.lemmas.Grind.{common_steps}
-use Rattle.xd_ledger.specs.Table.{workers_of}
+use Rattle.xd_run.specs.Table.{workers_of}
 use Rattle.xd_ledger.specs.Calls.{turn}
 use Rattle.xd_load.proofs.Turns.{dealt-twice}
 use Rattle.xd_load.proofs.batches.share_out.Goals as goal

@@ -2,7 +2,7 @@ use Rattle.std.proofs.Common.{◌≡◌, true, false, sym, ◌∙◌, arith}
 use Rattle.std.proofs.lemmas.List.{append-nil}
 use Rattle.std.proofs.lemmas.Bool.Decides.{nat_tests}
 use Rattle.std.specs.List.{range_with_len}
-use Rattle.xd_ledger.specs.Numbers.{among}
+use Rattle.xd_run.specs.Numbers.{among}
 use Rattle.xd_ledger.proofs.Lists.{among-range}
 use Rattle.xd_load.proofs.slots.add_within.Goals as goal
 

@@ -1,7 +1,7 @@
 use Rattle.std.proofs.Common.{◌∙◌, ap}
-use Rattle.xd_ledger.specs.Table.{workers_of}
-use Rattle.xd_ledger.specs.Turn.{shut}
-use Rattle.xd_ledger.proofs.Turns.{in_rota-same, workers-at_seat}
+use Rattle.xd_run.specs.Table.{workers_of}
+use Rattle.xd_run.specs.Turn.{shut}
+use Rattle.xd_run.proofs.Turns.{in_rota-same, workers-at_seat}
 use Rattle.xd_load.specs.Slots.{items_in}
 use Rattle.xd_load.proofs.SlotItems.{told}
 use Rattle.xd_load.proofs.slots.give_all.Goals as goal

@@ -1,10 +1,10 @@
 use Rattle.std.proofs.Common.{◌≡◌, ◌∙◌, List, ℕ, true, ap, subst, sym}
-use Rattle.xd_ledger.specs.Numbers.{among, all_among, all_distinct}
+use Rattle.xd_run.specs.Numbers.{among, all_among, all_distinct}
 use Rattle.xd_ledger.specs.Calls.{turn}
-use Rattle.xd_ledger.specs.Table.{workers_of}
-use Rattle.xd_ledger.specs.Turn.{Turn}
+use Rattle.xd_run.specs.Table.{workers_of}
+use Rattle.xd_run.specs.Turn.{Turn}
 use Rattle.xd_ledger.proofs.Lists.{all_among-filter, distinct-filter}
-use Rattle.xd_ledger.proofs.Turns.{in_rota-same}
+use Rattle.xd_run.proofs.Turns.{in_rota-same}
 use Rattle.xd_load.specs.Slots.{items_in}
 use Rattle.xd_load.proofs.SlotItems.{each_plan, each_plan-stands, workers-give_of_slot}
 use Rattle.xd_load.proofs.slots.join.Goals as goal

@@ -2,8 +2,8 @@ use Rattle.std.proofs.Common.{◌≡◌, ◌<◌, ◌∙◌, ◌++◌, ◌∷◌
 use Rattle.std.specs.Prelude.{filter}
 use Rattle.std.specs.List.{range_with_len}
 use Rattle.std.proofs.lemmas.List.{take_all}
-use Rattle.xd_ledger.specs.Numbers.{among}
-use Rattle.xd_ledger.specs.Table.{held_by_all}
+use Rattle.xd_run.specs.Numbers.{among}
+use Rattle.xd_run.specs.Table.{held_by_all}
 use Rattle.xd_ledger.proofs.Lists.{among-at}
 use Rattle.xd_load.specs.Slots.{first_in, items_in}
 use Rattle.xd_load.proofs.SlotItems.{filter-one_more, item-at, next-at, stands-in_pool}

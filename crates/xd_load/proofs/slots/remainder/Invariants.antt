@@ -1,6 +1,6 @@
 use Rattle.std.proofs.Common.{◌≡◌, take, drop}
 use Rattle.std.specs.Prelude.{filter}
-use Rattle.xd_ledger.specs.Numbers.{among, first_of}
+use Rattle.xd_run.specs.Numbers.{among, first_of}
 use Rattle.xd_load.specs.Slots.{items_in}
 use Rattle.xd_load.proofs.slots.remainder.Given as goal
 

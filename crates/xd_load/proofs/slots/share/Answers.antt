@@ -1,10 +1,10 @@
 use Rattle.std.proofs.Common.{◌≡◌, ◌<◌, ◌+◌, ◌∙◌, List, ℕ, length, drop, get_or, ap, sym, subst, arith}
 use Rattle.std.proofs.lemmas.List.{drop_more}
 use Rattle.xd_ledger.specs.Calls.{turn}
-use Rattle.xd_ledger.specs.Table.{workers_of}
-use Rattle.xd_ledger.specs.Each.{give_all, give_slots}
-use Rattle.xd_ledger.specs.Turn.{Turn}
-use Rattle.xd_ledger.proofs.Turns.{in_rota-at}
+use Rattle.xd_run.specs.Table.{workers_of}
+use Rattle.xd_run.specs.Each.{give_all, give_slots}
+use Rattle.xd_run.specs.Turn.{Turn}
+use Rattle.xd_run.proofs.Turns.{in_rota-at}
 use Rattle.xd_load.specs.Slots.{AreWaiting}
 use Rattle.xd_load.proofs.SlotItems.{each_plan, each_plan-stands, pool-give_all, slots-more, waiting-next, waiting-one, workers-give_all}
 use Rattle.xd_load.proofs.slots.share.Goals as goal

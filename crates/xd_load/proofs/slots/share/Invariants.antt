@@ -1,7 +1,7 @@
 use Rattle.std.proofs.Common.{◌≡◌, drop}
-use Rattle.xd_ledger.specs.Table.{workers_of}
-use Rattle.xd_ledger.specs.Plan.{Plan}
-use Rattle.xd_ledger.specs.Each.{give_slots, each_share}
+use Rattle.xd_run.specs.Table.{workers_of}
+use Rattle.xd_run.specs.Plan.{Plan}
+use Rattle.xd_run.specs.Each.{give_slots, each_share}
 use Rattle.xd_ledger.specs.Calls.{turn}
 use Rattle.xd_load.specs.Slots.{AreWaiting, InSlots}
 use Rattle.xd_load.proofs.slots.share.Given as goal

@@ -1,6 +1,6 @@
 use Rattle.std.proofs.Common.{◌≡◌, ◌∙◌, List, ℕ, true, subst, sym}
 use Rattle.std.specs.Prelude.{slice_index}
-use Rattle.xd_ledger.specs.Numbers.{all_distinct}
+use Rattle.xd_run.specs.Numbers.{all_distinct}
 use Rattle.xd_ledger.proofs.Lists.{distinct-range}
 use Rattle.xd_load.specs.Slots.{first_in}
 use Rattle.xd_load.proofs.slots.tell_all.Goals as goal

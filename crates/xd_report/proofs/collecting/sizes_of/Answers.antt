@@ -1,5 +1,5 @@
 use Rattle.std.proofs.Common.{rules, ◌≡◌, ◌++◌, ◌∷◌, [], ◌+◌, length, ap, ◌∙◌, zero-add}
-use Rattle.xd_ledger.specs.Sharing.{ids_at, sizes_from}
+use Rattle.xd_run.specs.Sharing.{ids_at, sizes_from}
 use Rattle.xd_report.proofs.Loops.{sizes-more}
 use Rattle.xd_report.proofs.collecting.sizes_of.Goals as goal
 

@@ -1,5 +1,5 @@
 use Rattle.std.proofs.Common.{◌≡◌}
-use Rattle.xd_ledger.specs.Sharing.{sizes_from}
+use Rattle.xd_run.specs.Sharing.{sizes_from}
 use Rattle.xd_report.proofs.collecting.sizes_of.Given as goal
 
 abbrev pub invariant-loop-slot : goal.invariant-loop-slot

@@ -1,4 +1,4 @@
-use Rattle.xd_ledger.specs.State.{no_one}
+use Rattle.xd_run.specs.State.{no_one}
 use Rattle.xd_report.proofs.EachReport.{all_blocks}
 use Rattle.xd_report.proofs.laws.block_law.Goals as goal
 

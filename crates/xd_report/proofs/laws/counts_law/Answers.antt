@@ -1,6 +1,6 @@
 use Rattle.std.proofs.Common.{arith}
-use Rattle.xd_ledger.specs.State.{no_one}
-use Rattle.xd_ledger.specs.Reports.{reports}
+use Rattle.xd_run.specs.State.{no_one}
+use Rattle.xd_run.specs.Reports.{reports}
 use Rattle.xd_report.specs.declared.counts.Counts.{Counts}
 use Rattle.xd_report.proofs.EachReport.{failed-all, passed-all, skipped-all, each_of_one_kind}
 use Rattle.xd_report.proofs.laws.counts_law.Goals as goal

@@ -2,7 +2,7 @@ use Rattle.std.proofs.Common.{[], ◌∷◌, ◌∙◌}
 use Rattle.std.proofs.lemmas.List.{append-nil}
 use Rattle.xd_journal.specs.declared.entry.Entry.TheVariants.{Over}
 use Rattle.xd_journal.specs.Local.{local_entries}
-use Rattle.xd_ledger.specs.State.{no_one}
+use Rattle.xd_run.specs.State.{no_one}
 use Rattle.xd_report.specs.Lines.{run_lines}
 use Rattle.xd_report.proofs.LocalLines.{local-lines}
 use Rattle.xd_report.proofs.Texts.{lines-more}

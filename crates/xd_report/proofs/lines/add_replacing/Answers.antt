@@ -1,6 +1,6 @@
 use Rattle.std.specs.Prelude.{codes, ◌∷◌, []}
-use Rattle.xd_phrases.specs.Names.{name}
-use Rattle.xd_phrases.proofs.Pieces.{three_more}
+use Rattle.xd_report_phrases.specs.Names.{name}
+use Rattle.xd_report_phrases.proofs.Pieces.{three_more}
 use Rattle.xd_report.proofs.lines.add_replacing.Goals as goal
 
 pub returns-in_ok-add-in-Some : goal.returns-in_ok-add-in-Some

@@ -1,8 +1,8 @@
 use Rattle.std.proofs.Common.{◌≡◌, ◌<◌, ◌+◌, ◌-◌, ◌∙◌, ℕ, Option, take, drop, length, sym, ap, subst, arith, rules}
 use Rattle.std.specs.Option.{IsSome}
 use Rattle.xd_ledger.specs.Chains.{final_of}
-use Rattle.xd_ledger.specs.Numbers.{among}
-use Rattle.xd_ledger.specs.Table.{held_by_all}
+use Rattle.xd_run.specs.Numbers.{among}
+use Rattle.xd_run.specs.Table.{held_by_all}
 use Rattle.xd_ledger.proofs.Lists.{among-at, final-take}
 use Rattle.xd_scope.specs.Stands.{IsSetOf}
 use Rattle.xd_scope.proofs.Remains.{in-pool, last-at, previous-at, set-more}

@@ -1,7 +1,7 @@
 use Rattle.std.proofs.Common.{[], List, take, ap, ◌∙◌, subst}
 use Rattle.std.specs.Str.{chars}
-use Rattle.xd_ledger.specs.Scopes.{scope_of}
-use Rattle.xd_ledger.specs.Units.{Group, grouped}
+use Rattle.xd_run.specs.Scopes.{scope_of}
+use Rattle.xd_run.specs.Units.{Group, grouped}
 use Rattle.xd_scope.specs.Stands.{AreGrouped}
 use Rattle.xd_scope.proofs.Grouped.{grouped-next}
 use Rattle.xd_scope.proofs.groups.grouped.Goals as goal

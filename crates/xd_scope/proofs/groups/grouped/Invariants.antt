@@ -1,5 +1,5 @@
 use Rattle.std.proofs.Common.{[], take}
-use Rattle.xd_ledger.specs.Units.{grouped}
+use Rattle.xd_run.specs.Units.{grouped}
 use Rattle.xd_scope.specs.Stands.{AreGrouped}
 use Rattle.xd_scope.proofs.groups.grouped.Given as goal
 

@@ -1,8 +1,8 @@
 use Rattle.std.proofs.Common.{◌≡◌, ◌<◌, ◌∙◌, ℕ, take, length, get_or, ap, arith}
 use Rattle.xd_ledger.specs.Calls.{turn}
-use Rattle.xd_ledger.specs.Table.{workers_of}
-use Rattle.xd_ledger.specs.Turn.{in_turn}
-use Rattle.xd_ledger.proofs.Turns.{in_rota-at}
+use Rattle.xd_run.specs.Table.{workers_of}
+use Rattle.xd_run.specs.Turn.{in_turn}
+use Rattle.xd_run.proofs.Turns.{in_rota-at}
 use Rattle.xd_scope.specs.Stands.{dealt_to}
 use Rattle.xd_scope.proofs.Turned.{is-at-same, one-step_more}
 use Rattle.xd_scope.proofs.refill.deal_each.Goals as goal

@@ -1,9 +1,9 @@
 use Rattle.std.proofs.Common.{◌≡◌, take}
 use Rattle.xd_ledger.specs.Calls.{turn}
-use Rattle.xd_ledger.specs.Plan.{Plan}
-use Rattle.xd_ledger.specs.Suits.{AreInPool}
-use Rattle.xd_ledger.specs.Table.{workers_of}
-use Rattle.xd_ledger.specs.Turn.{in_turn}
+use Rattle.xd_run.specs.Plan.{Plan}
+use Rattle.xd_run.specs.Suits.{AreInPool}
+use Rattle.xd_run.specs.Table.{workers_of}
+use Rattle.xd_run.specs.Turn.{in_turn}
 use Rattle.xd_scope.specs.Stands.{IsAt, Keeps, dealt_to}
 use Rattle.xd_scope.proofs.refill.deal_each.Given as goal
 

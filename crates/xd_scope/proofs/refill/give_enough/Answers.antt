@@ -1,8 +1,8 @@
 use Rattle.std.proofs.Common.{◌∙◌, sym}
 use Rattle.xd_ledger.specs.Calls.{turn}
-use Rattle.xd_ledger.specs.ScopeModes.{give_more, give_unit}
-use Rattle.xd_ledger.specs.Turn.{enough}
-use Rattle.xd_ledger.proofs.Turns.{in_rota-same}
+use Rattle.xd_run.specs.ScopeModes.{give_more, give_unit}
+use Rattle.xd_run.specs.Turn.{enough}
+use Rattle.xd_run.proofs.Turns.{in_rota-same}
 use Rattle.xd_scope.specs.Stands.{give_where_few}
 use Rattle.xd_scope.proofs.Turned.{give_more-is, is-at-same, then-step}
 use Rattle.xd_scope.proofs.refill.give_enough.Goals as goal

@@ -1,9 +1,9 @@
 use Rattle.std.proofs.Common.{◌≡◌, [], ◌∷◌, ◌++◌, ◌∙◌, List, ℕ, true, refl, ap, subst, sym}
 use Rattle.std.specs.Prelude.{◌==◌, if◌then◌else◌}
-use Rattle.xd_ledger.specs.Numbers.{all_among, all_distinct, without}
-use Rattle.xd_ledger.specs.Suits.{AreInPool}
-use Rattle.xd_ledger.specs.Table.{Table, assigned, workers_of}
-use Rattle.xd_ledger.proofs.Turns.{workers-at_seat}
+use Rattle.xd_run.specs.Numbers.{all_among, all_distinct, without}
+use Rattle.xd_run.specs.Suits.{AreInPool}
+use Rattle.xd_run.specs.Table.{Table, assigned, workers_of}
+use Rattle.xd_run.proofs.Turns.{workers-at_seat}
 use Rattle.xd_scope.specs.declared.units.Units.{Units}
 use Rattle.xd_scope.specs.Stands.{given_to}
 use Rattle.xd_scope.proofs.Handing.{given-unit}

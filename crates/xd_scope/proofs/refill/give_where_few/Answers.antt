@@ -1,7 +1,7 @@
 use Rattle.std.proofs.Common.{◌<◌, length, sym, arith}
 use Rattle.xd_ledger.specs.Calls.{turn}
-use Rattle.xd_ledger.specs.ScopeModes.{give_unit}
-use Rattle.xd_ledger.specs.Table.{held}
+use Rattle.xd_run.specs.ScopeModes.{give_unit}
+use Rattle.xd_run.specs.Table.{held}
 use Rattle.xd_scope.specs.Stands.{give_where_few}
 use Rattle.xd_scope.proofs.Turned.{few-gives, is-at-same}
 use Rattle.xd_scope.proofs.refill.give_where_few.Goals as goal

@@ -1,9 +1,9 @@
 use Rattle.std.proofs.Common.{ℕ, List, take, ap, arith}
 use Rattle.std.proofs.lemmas.List.{take_all}
 use Rattle.xd_ledger.specs.Calls.{turn}
-use Rattle.xd_ledger.specs.ScopeModes.{scope_refill}
-use Rattle.xd_ledger.specs.Table.{workers_of}
-use Rattle.xd_ledger.specs.Turn.{in_turn}
+use Rattle.xd_run.specs.ScopeModes.{scope_refill}
+use Rattle.xd_run.specs.Table.{workers_of}
+use Rattle.xd_run.specs.Turn.{in_turn}
 use Rattle.xd_scope.proofs.Turned.{is-at-same}
 use Rattle.xd_scope.proofs.refill.refill_all.Goals as goal
 

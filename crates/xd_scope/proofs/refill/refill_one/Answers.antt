@@ -1,10 +1,10 @@
 use Rattle.std.proofs.Common.{◌≡◌, ◌≤◌, ◌∙◌, false, length, sym, ap, arith}
 use Rattle.xd_ledger.specs.Calls.{turn}
-use Rattle.xd_ledger.specs.ScopeModes.{give_more, give_unit, scope_refill}
-use Rattle.xd_ledger.specs.Turn.{enough}
-use Rattle.xd_ledger.specs.Table.{held, seat_shut, workers_of}
-use Rattle.xd_ledger.specs.Turn.{Turn}
-use Rattle.xd_ledger.proofs.Turns.{some_plan, workers-shut_turn}
+use Rattle.xd_run.specs.ScopeModes.{give_more, give_unit, scope_refill}
+use Rattle.xd_run.specs.Turn.{enough}
+use Rattle.xd_run.specs.Table.{held, seat_shut, workers_of}
+use Rattle.xd_run.specs.Turn.{Turn}
+use Rattle.xd_run.proofs.Turns.{some_plan, workers-shut_turn}
 use Rattle.xd_scope.proofs.Turned.{is-at-same, refill-due}
 use Rattle.xd_scope.proofs.refill.refill_one.Goals as goal
 

@@ -1,11 +1,11 @@
 use Rattle.std.proofs.Common.{◌∙◌, ℕ, List, take, drop, length, ap, sym, subst, arith}
 use Rattle.std.specs.Prelude.{reverse}
 use Rattle.xd_ledger.specs.Calls.{turn}
-use Rattle.xd_ledger.specs.ScopeModes.{give_unit, scope_refill}
-use Rattle.xd_ledger.specs.Suits.{AreInPool}
-use Rattle.xd_ledger.specs.Table.{workers_of}
-use Rattle.xd_ledger.specs.Turn.{Turn, in_turn, shut_each}
-use Rattle.xd_ledger.proofs.Turns.{some_plan}
+use Rattle.xd_run.specs.ScopeModes.{give_unit, scope_refill}
+use Rattle.xd_run.specs.Suits.{AreInPool}
+use Rattle.xd_run.specs.Table.{workers_of}
+use Rattle.xd_run.specs.Turn.{Turn, in_turn, shut_each}
+use Rattle.xd_run.proofs.Turns.{some_plan}
 use Rattle.xd_scope.specs.Stands.{IsAt}
 use Rattle.xd_scope.proofs.Shares.{is-at-turn, pool-shut_each, workers-shut_each}
 use Rattle.xd_scope.proofs.Turned.{then-step}

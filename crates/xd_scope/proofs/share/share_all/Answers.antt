@@ -1,7 +1,7 @@
 use Rattle.std.proofs.Common.{◌≡◌, ◌∙◌, min, length, ap, sym, arith}
 use Rattle.xd_ledger.specs.Calls.{turn}
-use Rattle.xd_ledger.specs.ScopeModes.{scope_share, shut_where_spent}
-use Rattle.xd_ledger.specs.Table.{workers_of}
+use Rattle.xd_run.specs.ScopeModes.{scope_share, shut_where_spent}
+use Rattle.xd_run.specs.Table.{workers_of}
 use Rattle.xd_scope.specs.Stands.{served_share}
 use Rattle.xd_scope.proofs.Shares.{served-same, share-some}
 use Rattle.xd_scope.proofs.Turned.{is-at-same, then-step}

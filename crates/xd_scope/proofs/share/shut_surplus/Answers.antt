@@ -2,9 +2,9 @@ use Rattle.std.proofs.Common.{◌≡◌, ◌<◌, ◌+◌, ◌-◌, ◌∙◌, �
 use Rattle.std.specs.Prelude.{reverse}
 use Rattle.std.proofs.lemmas.List.{take_all}
 use Rattle.xd_ledger.specs.Calls.{turn}
-use Rattle.xd_ledger.specs.Table.{workers_of}
-use Rattle.xd_ledger.specs.Turn.{Turn, in_turn, shut}
-use Rattle.xd_ledger.proofs.Turns.{in_rota-at, one_more, some_plan, workers-shut_turn}
+use Rattle.xd_run.specs.Table.{workers_of}
+use Rattle.xd_run.specs.Turn.{Turn, in_turn, shut}
+use Rattle.xd_run.proofs.Turns.{in_rota-at, one_more, some_plan, workers-shut_turn}
 use Rattle.xd_scope.proofs.Shares.{from-last, length-last}
 use Rattle.xd_scope.proofs.share.shut_surplus.Goals as goal
 

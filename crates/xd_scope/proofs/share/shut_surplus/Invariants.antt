@@ -1,9 +1,9 @@
 use Rattle.std.proofs.Common.{◌≡◌, take, drop}
 use Rattle.std.specs.Prelude.{reverse}
 use Rattle.xd_ledger.specs.Calls.{turn}
-use Rattle.xd_ledger.specs.Plan.{Plan}
-use Rattle.xd_ledger.specs.Table.{workers_of}
-use Rattle.xd_ledger.specs.Turn.{in_turn, shut}
+use Rattle.xd_run.specs.Plan.{Plan}
+use Rattle.xd_run.specs.Table.{workers_of}
+use Rattle.xd_run.specs.Turn.{in_turn, shut}
 use Rattle.xd_scope.proofs.share.shut_surplus.Given as goal
 
 abbrev pub invariant-loop-done : goal.invariant-loop-done

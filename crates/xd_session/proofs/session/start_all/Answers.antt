@@ -1,7 +1,7 @@
 use Rattle.std.proofs.Common.{◌++◌, ◌∷◌, [], List, ap, sym, ◌∙◌}
 use Rattle.xd_journal.specs.declared.entry.Entry.{Entry}
 use Rattle.xd_journal.specs.declared.entry.Entry.TheVariants.{Start}
-use Rattle.xd_run_books.specs.Books.{books_of}
+use Rattle.xd_session_books.specs.Books.{books_of}
 use Rattle.xd_session.proofs.Begin.{start-next, started-next}
 use Rattle.xd_session.proofs.session.start_all.Goals as goal
 

@@ -1,7 +1,7 @@
 use Rattle.std.proofs.Common.{◌≡◌}
-use Rattle.xd_ledger.specs.State.{after_entries, no_one}
-use Rattle.xd_ledger.specs.Histories.{starts_from}
-use Rattle.xd_run_books.specs.Books.{books_of}
+use Rattle.xd_run.specs.State.{after_entries, no_one}
+use Rattle.xd_run.specs.Histories.{starts_from}
+use Rattle.xd_session_books.specs.Books.{books_of}
 use Rattle.xd_session.proofs.session.start_all.Given as goal
 
 abbrev pub invariant-loop-worker : goal.invariant-loop-worker

@@ -1,6 +1,6 @@
 use Rattle.std.proofs.Common.{◌≡◌, List, ℕ, true, sym, subst, ◌∙◌}
-use Rattle.xd_ledger.specs.Numbers.{all_among}
-use Rattle.xd_ledger.specs.Table.{workers_of}
+use Rattle.xd_run.specs.Numbers.{all_among}
+use Rattle.xd_run.specs.Table.{workers_of}
 use Rattle.xd_steal.proofs.Rota.{idle_seated}
 use Rattle.xd_steal.proofs.rule.after_dealing.Goals as goal
 

@@ -1,8 +1,8 @@
 use Rattle.std.proofs.Common.{List, ℕ, ◌/◌, ◌-◌, take, length, get_or, ap, ◌∙◌}
-use Rattle.xd_ledger.specs.Table.{workers_of}
-use Rattle.xd_ledger.specs.Turn.{Turn, give_front}
+use Rattle.xd_run.specs.Table.{workers_of}
+use Rattle.xd_run.specs.Turn.{Turn, give_front}
 use Rattle.xd_ledger.specs.Calls.{turn}
-use Rattle.xd_ledger.proofs.Turns.{workers-give, some_plan}
+use Rattle.xd_run.proofs.Turns.{workers-give, some_plan}
 use Rattle.xd_steal.proofs.Rota.{seated_at}
 use Rattle.xd_steal.proofs.Rules.{dealt-next}
 use Rattle.xd_steal.proofs.rule.deal.Goals as goal

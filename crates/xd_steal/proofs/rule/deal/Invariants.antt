@@ -1,8 +1,8 @@
 use Rattle.std.specs.Prelude.{◌≡◌, drop}
 use Rattle.xd_ledger.specs.Calls.{turn}
-use Rattle.xd_ledger.specs.Plan.{Plan}
-use Rattle.xd_ledger.specs.Table.{workers_of}
-use Rattle.xd_ledger.specs.Worksteal.{dealt}
+use Rattle.xd_run.specs.Plan.{Plan}
+use Rattle.xd_run.specs.Table.{workers_of}
+use Rattle.xd_run.specs.Worksteal.{dealt}
 use Rattle.xd_steal.proofs.rule.deal.Given as goal
 
 abbrev pub invariant-loop-i : goal.invariant-loop-i

@@ -2,10 +2,10 @@ use Rattle.std.proofs.Common.{◌≡◌, List, ℕ, true, sym, subst, ap, ◌∙
 use Rattle.std.specs.Prelude.{◌==◌}
 use Rattle.std.proofs.lemmas.Result.{on_ok_weaker}
 use Rattle.xd_ledger.specs.Calls.{turn}
-use Rattle.xd_ledger.specs.Numbers.{all_among}
-use Rattle.xd_ledger.specs.Table.{workers_of}
-use Rattle.xd_ledger.specs.Turn.{Turn}
-use Rattle.xd_ledger.specs.Worksteal.{after_dealing}
+use Rattle.xd_run.specs.Numbers.{all_among}
+use Rattle.xd_run.specs.Table.{workers_of}
+use Rattle.xd_run.specs.Turn.{Turn}
+use Rattle.xd_run.specs.Worksteal.{after_dealing}
 use Rattle.xd_steal.specs.Stands.{MatchesTurn}
 use Rattle.xd_steal.proofs.Rota.{idle_seated}
 use Rattle.xd_steal.proofs.Rules.{rule-deals}

@@ -1,8 +1,8 @@
 use Rattle.std.proofs.Common.{List, ℕ, get_or, ap, ◌∙◌}
-use Rattle.xd_ledger.specs.Table.{workers_of}
-use Rattle.xd_ledger.specs.Turn.{Turn}
+use Rattle.xd_run.specs.Table.{workers_of}
+use Rattle.xd_run.specs.Turn.{Turn}
 use Rattle.xd_ledger.specs.Calls.{turn}
-use Rattle.xd_ledger.proofs.Turns.{workers-shut_turn, some_plan}
+use Rattle.xd_run.proofs.Turns.{workers-shut_turn, some_plan}
 use Rattle.xd_steal.proofs.Rota.{seated_at}
 use Rattle.xd_steal.proofs.Rules.{shuts-next}
 use Rattle.xd_steal.proofs.rule.shut_all.Goals as goal

@@ -1,6 +1,6 @@
 use Rattle.std.proofs.Common.{ℕ, Vec, Global, true, false, ◌<◌, length, ap, ◌∙◌, arith}
-use Rattle.xd_ledger.specs.Table.{workers_of}
-use Rattle.xd_ledger.proofs.Turns.{in_rota-at}
+use Rattle.xd_run.specs.Table.{workers_of}
+use Rattle.xd_run.proofs.Turns.{in_rota-at}
 use Rattle.xd_steal.proofs.Rota.{idle-more}
 use Rattle.xd_steal.proofs.workers.idle.Goals as goal
 use Rattle.xd_steal.proofs.workers.idle.Goals.{then-is_idle+in_ok-push, else-is_idle}

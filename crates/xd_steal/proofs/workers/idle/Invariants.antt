@@ -1,5 +1,5 @@
 use Rattle.std.specs.Prelude.{◌≡◌, ◌++◌, drop}
-use Rattle.xd_ledger.specs.Worksteal.{idle}
+use Rattle.xd_run.specs.Worksteal.{idle}
 use Rattle.xd_steal.proofs.Rota.{idle_in}
 use Rattle.xd_steal.proofs.workers.idle.Given as goal
 

@@ -1,6 +1,6 @@
 use Rattle.std.proofs.Common.{◌<◌, length, arith}
-use Rattle.xd_ledger.specs.Table.{workers_of}
-use Rattle.xd_ledger.proofs.Turns.{in_rota-at}
+use Rattle.xd_run.specs.Table.{workers_of}
+use Rattle.xd_run.proofs.Turns.{in_rota-at}
 use Rattle.xd_steal.proofs.Rota.{most-more}
 use Rattle.xd_steal.proofs.workers.most.Goals as goal
 

@@ -1,5 +1,5 @@
 use Rattle.std.specs.Prelude.{◌≡◌, max, drop}
-use Rattle.xd_ledger.specs.Worksteal.{most, open_seats}
+use Rattle.xd_run.specs.Worksteal.{most, open_seats}
 use Rattle.xd_steal.proofs.Rota.{open_in}
 use Rattle.xd_steal.proofs.workers.most.Given as goal
 

@@ -1,6 +1,6 @@
 use Rattle.std.proofs.Common.{◌<◌, length, sym, ◌∙◌, arith, true, false}
-use Rattle.xd_ledger.specs.Table.{workers_of}
-use Rattle.xd_ledger.proofs.Turns.{in_rota-at}
+use Rattle.xd_run.specs.Table.{workers_of}
+use Rattle.xd_run.proofs.Turns.{in_rota-at}
 use Rattle.xd_steal.proofs.Rota.{first-more}
 use Rattle.xd_steal.proofs.workers.victim.Goals as goal
 

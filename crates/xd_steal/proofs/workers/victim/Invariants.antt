@@ -1,5 +1,5 @@
 use Rattle.std.specs.Prelude.{◌≡◌, drop, option_map}
-use Rattle.xd_ledger.specs.Worksteal.{victim}
+use Rattle.xd_run.specs.Worksteal.{victim}
 use Rattle.xd_steal.proofs.Rota.{first_in}
 use Rattle.xd_steal.proofs.workers.victim.Given as goal
 

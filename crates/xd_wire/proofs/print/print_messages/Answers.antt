@@ -1,6 +1,6 @@
 use Rattle.std.proofs.Common.{Bool, Result, Ok, subst}
 use Rattle.xd_edge.specs.declared.refusals.Failed.{Failed}
-use Rattle.xd_wire.specs.Lines.{texts_at}
+use Rattle.xd_wire.specs.inner.Lines.{texts_at}
 use Rattle.xd_wire.specs.Printing.{Leaves}
 use Rattle.xd_wire.proofs.PrintLemmas.{has_text}
 use Rattle.xd_wire.proofs.print.print_messages.Goals as goal

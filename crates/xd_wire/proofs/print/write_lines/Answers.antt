@@ -2,7 +2,7 @@ use Rattle.std.proofs.Common.{List, ℕ, length, sym, subst, ◌∙◌}
 use Rattle.std.proofs.lemmas.Result.{err_from_is_err_and}
 use Rattle.xd_edge.specs.Sink.{Took, TookPart}
 use Rattle.xd_wire.specs.declared.step.Then.{Then}
-use Rattle.xd_wire.specs.Lines.{BeginsAfter, texts_at, texts_after}
+use Rattle.xd_wire.specs.inner.Lines.{BeginsAfter, texts_at, texts_after}
 use Rattle.xd_wire.specs.Printing.{TookUpTo}
 use Rattle.xd_wire.proofs.PrintLemmas.{up_to_next, up_to_part, up_to_stop, was_ok, when_err, when_ok}
 use Rattle.xd_wire.proofs.print.write_lines.Goals as goal

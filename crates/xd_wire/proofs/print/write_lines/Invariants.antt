@@ -1,5 +1,5 @@
 use Rattle.std.proofs.Common.{◌≡◌, ◌≤◌, ◌-◌, length}
-use Rattle.xd_wire.specs.Lines.{texts_at}
+use Rattle.xd_wire.specs.inner.Lines.{texts_at}
 use Rattle.xd_wire.specs.Printing.{TookUpTo}
 use Rattle.xd_wire.proofs.print.write_lines.Given as goal
 

@@ -4,7 +4,7 @@ use Rattle.std.proofs.lemmas.List.{take_rest}
 use Rattle.xd_frame.specs.declared.header.Header.{Header}
 use Rattle.xd_frame.specs.Stream.{FrontSays}
 use Rattle.xd_wire.specs.WireText.{message_with}
-use Rattle.xd_wire.specs.Lines.{IsLineOf}
+use Rattle.xd_wire.specs.inner.Lines.{IsLineOf}
 use Rattle.xd_wire.proofs.LineLemmas.{line_leads, fault_leads}
 use Rattle.xd_wire.proofs.step.step_at.Goals as goal
 

@@ -1,8 +1,8 @@
 use Rattle.std.proofs.Common.{ap}
 use Rattle.std.proofs.Math.Logic.{∥∥₁_map}
-use Rattle.xd_note.specs.Noted.{noted}
+use Rattle.xd_trace.specs.Noted.{noted}
 use Rattle.xd_starts.specs.Children.{starts_told}
-use Rattle.xd_peer.specs.PeerView.{losses_of}
+use Rattle.xd_group_peer.specs.PeerView.{losses_of}
 use Rattle.xd_group.proofs.Killing.{kills_buried}
 use Rattle.xd_group.proofs.Stepping.{step_buried}
 use Rattle.xd_group.proofs.gateway_hub.GatewayHub.bury.Goals as goal

@@ -4,11 +4,11 @@ use Rattle.std.specs.Prelude.{is_some, take}
 use Rattle.std.proofs.lemmas.List.{map-append}
 use Rattle.std.proofs.lemmas.List.Elements.{All-push, All-same}
 use Rattle.xd_link.specs.Spring.{spring}
-use Rattle.xd_note.specs.Noted.{noted}
+use Rattle.xd_trace.specs.Noted.{noted}
 use Rattle.xd_starts.specs.Children.{AskedOfLink, children_asked, reaped_child}
 use Rattle.xd_group.specs.Fates.{is_refused, workers_with}
 use Rattle.xd_group.specs.Kills.{EndKilledSo}
-use Rattle.xd_peer.specs.LinkRun.{link_of}
+use Rattle.xd_group_peer.specs.LinkRun.{link_of}
 use Rattle.xd_group.specs.Returned.{RanSo, end_told}
 use Rattle.xd_group.specs.declared.finish.LinkEnd.{LinkEnd}
 use Rattle.xd_group.proofs.Ending.{some_of}

@@ -3,16 +3,16 @@ use Rattle.std.proofs.Math.Logic.{∥∥₁_elim, ∥∥₁_map₂}
 use Rattle.std.proofs.Props.{props}
 use Rattle.xd_drive.specs.Listed.{starts_of}
 use Rattle.xd_links.specs.Runs.{news_of}
-use Rattle.xd_note.specs.Noted.{noted}
+use Rattle.xd_trace.specs.Noted.{noted}
 use Rattle.xd_post.specs.Mails.{mails}
 use Rattle.xd_starts.specs.Children.{TellsLinks, children_asked}
-use Rattle.xd_group.specs.Ending.{Began, began_with}
+use Rattle.xd_group.specs.inner.Ending.{Began, began_with}
 use Rattle.xd_group.specs.Fates.{has_link}
 use Rattle.xd_group.specs.InStep.{all_started}
-use Rattle.xd_peer.specs.PeerView.{pages_of}
+use Rattle.xd_group_peer.specs.PeerView.{pages_of}
 use Rattle.xd_group.specs.Returned.{end_told}
 use Rattle.xd_group.proofs.FateFacts.{failed_count, linked_length, take_all, with_all}
-use Rattle.xd_peer.proofs.PeerFacts.{no_way}
+use Rattle.xd_group_peer.proofs.PeerFacts.{no_way}
 use Rattle.xd_group.proofs.Saying.{said_unlinked}
 use Rattle.xd_group.proofs.Stepping.{begun_all}
 use Rattle.xd_group.proofs.gateway_hub.GatewayHub.finish.Goals as goal

@@ -2,7 +2,7 @@ use Rattle.std.proofs.Common.{◌≡◌, false}
 use Rattle.xd_link.specs.Spring.{spring}
 use Rattle.xd_post.specs.Mails.{mails}
 use Rattle.xd_starts.specs.Children.{starts_told}
-use Rattle.xd_group.specs.Ending.{AreEnded, Ending, began_with, links_left}
+use Rattle.xd_group.specs.inner.Ending.{AreEnded, Ending, began_with, links_left}
 use Rattle.xd_group.proofs.gateway_hub.GatewayHub.finish.Given as goal
 
 abbrev pub invariant-loop-number : goal.invariant-loop-number

@@ -2,7 +2,7 @@ use Rattle.xd_group.proofs.Killing.{kills_first}
 use Rattle.std.proofs.Common.{◌≡◌, [], List, ap, map, sym, ◌∙◌, rules}
 use Rattle.std.specs.Prelude.{is_some}
 use Rattle.xd_group.specs.Fates.{is_linked, is_refused}
-use Rattle.xd_peer.specs.PeerView.{pages_of}
+use Rattle.xd_group_peer.specs.PeerView.{pages_of}
 use Rattle.xd_group.proofs.Counting.{few_first}
 use Rattle.xd_group.proofs.Keeping.{kept_first}
 use Rattle.xd_group.proofs.Saying.{unsaid_first}

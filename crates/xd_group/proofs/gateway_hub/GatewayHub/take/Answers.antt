@@ -1,10 +1,10 @@
-use Rattle.xd_peer.specs.PeerView.{losses_of}
+use Rattle.xd_group_peer.specs.PeerView.{losses_of}
 use Rattle.xd_group.proofs.Killing.{kills_cut}
 use Rattle.std.proofs.Common.{ap, sym, ◌∙◌}
 use Rattle.std.proofs.Math.Logic.{∥∥₁_map}
-use Rattle.xd_note.specs.Noted.{noted}
+use Rattle.xd_trace.specs.Noted.{noted}
 use Rattle.xd_starts.specs.Children.{starts_told}
-use Rattle.xd_peer.proofs.PeerFacts.{no_way}
+use Rattle.xd_group_peer.proofs.PeerFacts.{no_way}
 use Rattle.xd_group.proofs.Stepping.{step_cut}
 use Rattle.xd_group.proofs.gateway_hub.GatewayHub.take.Goals as goal
 

@@ -1,8 +1,8 @@
-use Rattle.xd_peer.specs.PeerView.{losses_of}
+use Rattle.xd_group_peer.specs.PeerView.{losses_of}
 use Rattle.xd_group.proofs.Killing.{kills_kill}
 use Rattle.std.proofs.Common.{ap, sym, ◌∙◌, refl}
 use Rattle.std.proofs.Math.Logic.{∥∥₁_map, ∥∥₁_map₂}
-use Rattle.xd_note.specs.Noted.{noted}
+use Rattle.xd_trace.specs.Noted.{noted}
 use Rattle.xd_starts.specs.Children.{starts_told}
 use Rattle.xd_journal.specs.declared.entry.Entry.TheVariants.{Kill}
 use Rattle.xd_group.proofs.Stepping.{step_called}

@@ -1,5 +1,5 @@
 use Rattle.std.proofs.Common.{◌≡◌, [], true}
-use Rattle.xd_note.specs.Noted.{noted}
+use Rattle.xd_trace.specs.Noted.{noted}
 use Rattle.xd_group.proofs.gateway_hub.GatewayHubHub.next.Given as goal
 
 abbrev pub invariant-loop : goal.invariant-loop

@@ -1,11 +1,11 @@
-use Rattle.xd_peer.specs.PeerView.{losses_of}
+use Rattle.xd_group_peer.specs.PeerView.{losses_of}
 use Rattle.xd_group.proofs.Killing.{kills_called, kills_cut, order_kills}
 use Rattle.std.proofs.Common.{ap, sym, ◌∙◌}
 use Rattle.std.proofs.Math.Logic.{∥∥₁_map}
-use Rattle.xd_note.specs.Noted.{noted}
+use Rattle.xd_trace.specs.Noted.{noted}
 use Rattle.xd_starts.specs.Children.{starts_told}
 use Rattle.xd_group.proofs.Marking.{marks_ordered}
-use Rattle.xd_peer.proofs.PeerFacts.{no_way}
+use Rattle.xd_group_peer.proofs.PeerFacts.{no_way}
 use Rattle.xd_group.proofs.Stepping.{order_plain, step_called}
 use Rattle.xd_group.proofs.gateway_hub.GatewayHubHub.say.Goals as goal
 

@@ -1,4 +1,4 @@
-use Rattle.xd_peer.specs.PeerView.{losses_of}
+use Rattle.xd_group_peer.specs.PeerView.{losses_of}
 use Rattle.std.specs.Prelude.{option_map}
 use Rattle.std.specs.Bool.{then_some}
 use Rattle.xd_starts.specs.Children.{cut_by, fresh_child}
@@ -8,7 +8,7 @@ use Rattle.std.proofs.Common.{◌<◌, false, None, length, ap, sym, ◌∙◌, 
 use Rattle.std.specs.Prelude.{is_some}
 use Rattle.std.proofs.Math.Logic.{∥∥₁_map, ∥∥₁_map₂}
 use Rattle.std.proofs.lemmas.Option.{slice_get_read}
-use Rattle.xd_note.specs.Noted.{noted}
+use Rattle.xd_trace.specs.Noted.{noted}
 use Rattle.xd_starts.specs.Children.{starts_told}
 use Rattle.xd_group.specs.declared.fate.Fate.TheVariants.{Unlinked}
 use Rattle.xd_group.proofs.LossFacts.{lost_count}

@@ -2,7 +2,7 @@ use Rattle.std.proofs.Math.Logic.{∥∥₁_map, ∥∥₁_map₂}
 use Rattle.xd_link.specs.Spring.{spring}
 use Rattle.xd_links.specs.Runs.{news_of}
 use Rattle.xd_post.specs.Mails.{mails}
-use Rattle.xd_peer.specs.PeerView.{pages_of}
+use Rattle.xd_group_peer.specs.PeerView.{pages_of}
 use Rattle.xd_group.proofs.EndFacts.{late_ended, source_late}
 use Rattle.xd_group.proofs.Ending.{late_closed, ran_at}
 use Rattle.xd_group.proofs.group.Group.close.Goals as goal

@@ -2,9 +2,9 @@ use Rattle.std.proofs.Common.{◌≡◌, List, Option, map}
 use Rattle.std.specs.Prelude.{is_some}
 use Rattle.xd_links.specs.Runs.{news_of}
 use Rattle.xd_post.specs.Mails.{mails}
-use Rattle.xd_group.specs.Late.{Late, Settled}
+use Rattle.xd_group.specs.inner.Late.{Late, Settled}
 use Rattle.xd_group.specs.Kills.{KeepsLost}
-use Rattle.xd_peer.specs.PeerView.{losses_of, pages_of}
+use Rattle.xd_group_peer.specs.PeerView.{losses_of, pages_of}
 use Rattle.xd_group.proofs.group.Group.drain.Given as goal
 
 abbrev pub invariant-loop : goal.invariant-loop

@@ -1,8 +1,8 @@
 use Rattle.std.proofs.Common.{ap, arith, map, sym, ◌∙◌, Some}
 use Rattle.std.specs.Prelude.{is_some}
-use Rattle.xd_note.specs.Noted.{noted}
-use Rattle.xd_group.specs.Late.{settled_at}
-use Rattle.xd_peer.specs.PeerView.{ends_of}
+use Rattle.xd_trace.specs.Noted.{noted}
+use Rattle.xd_group.specs.inner.Late.{settled_at}
+use Rattle.xd_group_peer.specs.PeerView.{ends_of}
 use Rattle.xd_group.specs.declared.fate.Fate.TheVariants.{Linked, Refused}
 use Rattle.xd_group.proofs.Ending.{linked_so, unused_so}
 use Rattle.xd_group.proofs.FateFacts.{not_within, so_past}

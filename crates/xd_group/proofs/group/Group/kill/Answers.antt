@@ -1,8 +1,8 @@
 use Rattle.std.proofs.Math.Logic.{∥∥₁_map}
 use Rattle.xd_links.specs.Runs.{news_of}
-use Rattle.xd_note.specs.Noted.{noted}
+use Rattle.xd_trace.specs.Noted.{noted}
 use Rattle.xd_post.specs.Mails.{mails}
-use Rattle.xd_peer.specs.PeerView.{pages_of}
+use Rattle.xd_group_peer.specs.PeerView.{pages_of}
 use Rattle.std.proofs.Common.{refl}
 use Rattle.xd_journal.specs.declared.entry.Entry.TheVariants.{Kill}
 use Rattle.xd_group.proofs.Keeping.{kept_called}

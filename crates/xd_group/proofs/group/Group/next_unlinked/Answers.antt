@@ -2,11 +2,11 @@ use Rattle.std.proofs.Common.{◌≡◌, ◌∙◌, ap, List, refl, Some}
 use Rattle.std.specs.Prelude.{◌++◌, ◌∷◌, [], slice_get}
 use Rattle.std.proofs.Math.Logic.{∥∥₁_map₂}
 use Rattle.xd_links.specs.Runs.{news_of}
-use Rattle.xd_note.specs.Noted.{noted}
+use Rattle.xd_trace.specs.Noted.{noted}
 use Rattle.xd_post.specs.Mails.{mails}
 use Rattle.xd_journal.specs.declared.news.News.{News}
 use Rattle.xd_journal.specs.declared.news.What.TheVariants.{NotStarted}
-use Rattle.xd_peer.specs.PeerView.{pages_of}
+use Rattle.xd_group_peer.specs.PeerView.{pages_of}
 use Rattle.xd_group.proofs.Keeping.{kept_unlinked}
 use Rattle.xd_group.proofs.Saying.{unsaid_said, waits_unread, waits_within}
 use Rattle.xd_group.proofs.group.Group.next_unlinked.Goals as goal

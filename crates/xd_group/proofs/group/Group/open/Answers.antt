@@ -1,8 +1,8 @@
 use Rattle.std.proofs.Math.Logic.{∥∥₁_map, ∥∥₁_map₂}
 use Rattle.xd_links.specs.Runs.{news_of}
-use Rattle.xd_note.specs.Noted.{noted}
+use Rattle.xd_trace.specs.Noted.{noted}
 use Rattle.xd_post.specs.Mails.{mails}
-use Rattle.xd_peer.specs.PeerView.{pages_of}
+use Rattle.xd_group_peer.specs.PeerView.{pages_of}
 use Rattle.std.proofs.Common.{◌≡◌, ap, length, map, rules}
 use Rattle.std.specs.Prelude.{is_none, is_some}
 use Rattle.xd_group.specs.Fates.{is_linked}

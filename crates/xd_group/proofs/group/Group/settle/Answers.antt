@@ -3,10 +3,10 @@ use Rattle.std.specs.Prelude.{is_some}
 use Rattle.std.proofs.Math.Logic.{∥∥₁_elim, ∥∥₁_map}
 use Rattle.std.proofs.Props.{props}
 use Rattle.xd_links.specs.Runs.{news_of}
-use Rattle.xd_note.specs.Noted.{noted}
+use Rattle.xd_trace.specs.Noted.{noted}
 use Rattle.xd_post.specs.Mails.{mails}
-use Rattle.xd_group.specs.Late.{settled_at}
-use Rattle.xd_peer.specs.PeerView.{pages_of}
+use Rattle.xd_group.specs.inner.Late.{settled_at}
+use Rattle.xd_group_peer.specs.PeerView.{pages_of}
 use Rattle.xd_group.proofs.EndFacts.{ended_from, said_lost}
 use Rattle.xd_group.proofs.Ending.{late_begun}
 use Rattle.xd_group.proofs.FateFacts.{spared_from}

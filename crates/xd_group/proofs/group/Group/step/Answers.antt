@@ -1,8 +1,8 @@
 use Rattle.std.proofs.Math.Logic.{∥∥₁_map, ∥∥₁_map₂, ∥∥₁_elim}
 use Rattle.xd_links.specs.Runs.{news_of}
-use Rattle.xd_note.specs.Noted.{noted}
+use Rattle.xd_trace.specs.Noted.{noted}
 use Rattle.xd_post.specs.Mails.{mails}
-use Rattle.xd_peer.specs.PeerView.{pages_of}
+use Rattle.xd_group_peer.specs.PeerView.{pages_of}
 use Rattle.xd_group.proofs.Keeping.{heard_at, kept_heard, news_started, given_some, given_none, breach_news, worker_there}
 use Rattle.xd_group.proofs.PageFacts.{never}
 use Rattle.xd_group.proofs.Saying.{unsaid_step}

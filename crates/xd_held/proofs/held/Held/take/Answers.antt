@@ -1,5 +1,5 @@
 use Rattle.std.proofs.Common.{rules, sym, ap, ◌∙◌}
-use Rattle.xd_ledger.specs.Numbers.{without}
+use Rattle.xd_run.specs.Numbers.{without}
 use Rattle.xd_held.proofs.Rising.{rises-following, without-first, without-those}
 use Rattle.xd_held.proofs.held.Held.take.Goals as goal
 

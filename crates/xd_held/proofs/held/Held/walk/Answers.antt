@@ -1,6 +1,6 @@
 use Rattle.std.proofs.Common.{rules, not, ap, ◌∙◌}
 use Rattle.std.proofs.lemmas.Fn.{filter_same}
-use Rattle.xd_ledger.specs.Numbers.{among, without}
+use Rattle.xd_run.specs.Numbers.{among, without}
 use Rattle.xd_held.proofs.held.Held.walk.Goals as goal
 
 pub returns : goal.returns

@@ -2,9 +2,9 @@ use Rattle.std.proofs.Common.{◌≡◌, List, ap, ◌∙◌, sym, subst, arith,
 use Rattle.std.specs.Prelude.{◌==◌}
 use Rattle.std.specs.Vec.{vec_capacity}
 use Rattle.xd_ledger.specs.Chains.{chain_at, chains_of, poured}
-use Rattle.xd_ledger.specs.Numbers.{times, first_of}
+use Rattle.xd_run.specs.Numbers.{times, first_of}
 use Rattle.xd_ledger.specs.Posts.{chain_in, released}
-use Rattle.xd_ledger.specs.Table.{held, crash_item, died}
+use Rattle.xd_run.specs.Table.{held, crash_item, died}
 use Rattle.xd_ledger.proofs.Kept.{has_at, dies_kept, dies_table}
 use Rattle.xd_ledger.proofs.Fills.{held_once, held_fits, rest_is}
 use Rattle.xd_ledger.proofs.ledger.Ledger.die.Goals as goal

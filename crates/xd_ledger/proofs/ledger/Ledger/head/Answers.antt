@@ -1,9 +1,9 @@
 use Rattle.std.proofs.Common.{◌≡◌, ap, ◌∙◌, sym, subst, ◌<◌}
 use Rattle.std.specs.Vec.{vec_capacity}
 use Rattle.xd_ledger.specs.Chains.{chain_at, chains_of}
-use Rattle.xd_ledger.specs.Numbers.{first_of}
+use Rattle.xd_run.specs.Numbers.{first_of}
 use Rattle.xd_ledger.specs.Posts.{chain_in}
-use Rattle.xd_ledger.specs.Table.{held}
+use Rattle.xd_run.specs.Table.{held}
 use Rattle.xd_ledger.proofs.Kept.{has_at}
 use Rattle.xd_ledger.proofs.ledger.Ledger.head.Goals as goal
 

@@ -3,7 +3,7 @@ use Rattle.std.specs.Prelude.{slice_index}
 use Rattle.std.specs.Vec.{vec_capacity}
 use Rattle.xd_ledger.specs.Chains.{chain_at, chains_of}
 use Rattle.xd_ledger.specs.Posts.{chain_in}
-use Rattle.xd_ledger.specs.Table.{held}
+use Rattle.xd_run.specs.Table.{held}
 use Rattle.xd_ledger.proofs.Kept.{has_at}
 use Rattle.xd_ledger.proofs.ledger.Ledger.held_at.Goals as goal
 

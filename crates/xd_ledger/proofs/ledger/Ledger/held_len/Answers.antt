@@ -2,7 +2,7 @@ use Rattle.std.proofs.Common.{◌≡◌, ap, ◌∙◌, sym, subst, ◌<◌, len
 use Rattle.std.specs.Vec.{vec_capacity}
 use Rattle.xd_ledger.specs.Chains.{chain_at, chains_of}
 use Rattle.xd_ledger.specs.Posts.{chain_in}
-use Rattle.xd_ledger.specs.Table.{held}
+use Rattle.xd_run.specs.Table.{held}
 use Rattle.xd_ledger.proofs.Kept.{has_at}
 use Rattle.xd_ledger.proofs.ledger.Ledger.held_len.Goals as goal
 

@@ -2,7 +2,7 @@ use Rattle.std.proofs.Common.{◌∙◌, ◌<◌, ap, sym, arith, length}
 use Rattle.std.specs.Prelude.{slice_index}
 use Rattle.std.proofs.lemmas.Grind.{common_steps}
 use Rattle.xd_ledger.specs.Chains.{chain_at}
-use Rattle.xd_ledger.specs.Table.{workers_of}
+use Rattle.xd_run.specs.Table.{workers_of}
 use Rattle.xd_ledger.proofs.Posts.{workers-at}
 use Rattle.xd_ledger.proofs.ledger.Ledger.rota_at.Goals as goal
 

@@ -1,7 +1,7 @@
 use Rattle.std.proofs.Common.{◌≡◌, ◌∙◌, length, sym, ap, subst, true, List, ℕ}
 use Rattle.std.specs.Prelude.{sum}
 use Rattle.std.proofs.lemmas.List.FromFn.{length-range_with_len}
-use Rattle.xd_ledger.specs.Numbers.{among}
+use Rattle.xd_run.specs.Numbers.{among}
 use Rattle.xd_load.specs.Slots.{items_in}
 use Rattle.xd_load.proofs.SlotItems.{waiting-all}
 use Rattle.xd_load.proofs.each.EachMode.share.Goals as goal

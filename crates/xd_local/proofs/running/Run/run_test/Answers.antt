@@ -1,7 +1,7 @@
 use Rattle.std.proofs.Common.{false}
 use Rattle.std.proofs.lemmas.Result.{err_from_is_err_and}
 use Rattle.xd_report.proofs.Endings.{ends_on}
-use Rattle.xd_local.specs.Running.{after_journal}
+use Rattle.xd_local.specs.inner.Running.{after_journal}
 use Rattle.xd_local.proofs.NewLines.{preceding, ran_test}
 use Rattle.xd_local.proofs.running.Run.run_test.Goals as goal
 

@@ -1,6 +1,6 @@
 use Rattle.std.proofs.Common.{true, false, ◌∙◌, refl, arith}
 use Rattle.std.proofs.lemmas.Result.{err_from_is_err_and}
-use Rattle.xd_ledger.specs.State.{no_one}
+use Rattle.xd_run.specs.State.{no_one}
 use Rattle.xd_report.proofs.Endings.{ends_on}
 use Rattle.xd_local.proofs.Steps.{go, limited, not_collected, start, stop}
 use Rattle.xd_local.proofs.running.Run.run_tests.Goals as goal

@@ -1,5 +1,5 @@
 use Rattle.std.proofs.Common.{◌≡◌}
-use Rattle.xd_local.specs.Running.{Progress}
+use Rattle.xd_local.specs.inner.Running.{Progress}
 use Rattle.xd_local.proofs.running.Run.run_tests.Given as goal
 
 abbrev pub invariant-loop-test : goal.invariant-loop-test

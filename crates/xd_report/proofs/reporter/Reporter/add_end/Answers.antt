@@ -1,6 +1,6 @@
 use Rattle.std.proofs.Common.{◌++◌, List, ℕ, ◌∙◌, ap, append_assoc}
 use Rattle.xd_report.specs.Lines.{down_line, lost_head_line}
-use Rattle.xd_phrases.specs.Names.{cause_text}
+use Rattle.xd_report_phrases.specs.Names.{cause_text}
 use Rattle.xd_report.specs.Tests.{mode_of}
 use Rattle.xd_report.proofs.reporter.Reporter.add_end.Goals as goal
 

@@ -1,6 +1,6 @@
 use Rattle.std.proofs.Common.{◌≡◌, Bool, subst, sym, ◌∙◌, ap}
-use Rattle.xd_ledger.specs.Books.{Books}
-use Rattle.xd_ledger.specs.State.{after_entry, reached}
+use Rattle.xd_run.specs.Books.{Books}
+use Rattle.xd_run.specs.State.{after_entry, reached}
 use Rattle.xd_report.proofs.Moves.{reach}
 use Rattle.xd_report.proofs.Texts.{Tells, collected-tells}
 use Rattle.xd_report.proofs.reporter.Reporter.add_lines.Goals as goal

@@ -2,10 +2,10 @@ use Rattle.std.proofs.Common.{◌≡◌, ◌++◌, ℕ, List, map, refl, sym, �
 use Rattle.std.specs.List.{range_with_len}
 use Rattle.std.specs.Vec.{with_items}
 use Rattle.std.proofs.lemmas.List.{with_items_is}
-use Rattle.xd_ledger.specs.declared.seat.Seat.{Seat}
-use Rattle.xd_ledger.specs.Plan.{base, slot_items}
-use Rattle.xd_ledger.specs.Table.{at_seat}
-use Rattle.xd_ledger.specs.Workers.{slot_of}
+use Rattle.xd_run.specs.declared.seat.Seat.{Seat}
+use Rattle.xd_run.specs.Plan.{base, slot_items}
+use Rattle.xd_run.specs.Table.{at_seat}
+use Rattle.xd_run.specs.Workers.{slot_of}
 use Rattle.xd_held.specs.declared.holder.Holder.{Holder}
 use Rattle.xd_held.specs.Holders.{seat_of_holder}
 use Rattle.xd_report.proofs.Kept.{changed_kept}

@@ -1,8 +1,8 @@
 use Rattle.std.proofs.Common.{Bool, List, ℕ, sym, ◌∙◌, ap}
-use Rattle.xd_ledger.specs.Books.{Books}
-use Rattle.xd_ledger.specs.Retry.{is_retry}
-use Rattle.xd_ledger.specs.Deaths.{gone, limited, lost_with}
-use Rattle.xd_ledger.specs.Table.{held}
+use Rattle.xd_run.specs.Books.{Books}
+use Rattle.xd_run.specs.Retry.{is_retry}
+use Rattle.xd_run.specs.Deaths.{gone, limited, lost_with}
+use Rattle.xd_run.specs.Table.{held}
 use Rattle.xd_report.proofs.Kept.{left_kept}
 use Rattle.xd_report.proofs.reporter.Reporter.bury.Goals as goal
 

@@ -1,10 +1,10 @@
 use Rattle.std.proofs.Common.{Option, Some, None, OnOk, refl, sym, ◌∙◌, subst}
 use Rattle.xd_journal.specs.declared.entry.RunStop.{RunStop}
-use Rattle.xd_ledger.specs.Books.{marked}
-use Rattle.xd_ledger.specs.Collections.{with_list}
-use Rattle.xd_ledger.specs.Sharing.{State, in_books}
-use Rattle.xd_ledger.specs.Collecting.{collecting}
-use Rattle.xd_ledger.specs.Workers.{made_collected}
+use Rattle.xd_run.specs.Books.{marked}
+use Rattle.xd_run.specs.Collections.{with_list}
+use Rattle.xd_run.specs.Sharing.{State, in_books}
+use Rattle.xd_run.specs.Collecting.{collecting}
+use Rattle.xd_run.specs.Workers.{made_collected}
 use Rattle.xd_report.specs.Follows.{Follows}
 use Rattle.xd_report.proofs.Moves.{stays, stops, joins}
 use Rattle.xd_report.proofs.reporter.Reporter.collect.Goals as goal

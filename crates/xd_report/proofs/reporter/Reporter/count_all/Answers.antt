@@ -1,6 +1,6 @@
 use Rattle.std.proofs.Common.{List, take, subst, sym, ◌∙◌, ap, arith}
 use Rattle.xd_journal.specs.declared.entry.Entry.{Entry}
-use Rattle.xd_ledger.specs.State.{after_entries, reached}
+use Rattle.xd_run.specs.State.{after_entries, reached}
 use Rattle.xd_report.specs.Follows.{Follows}
 use Rattle.xd_report.specs.Summary.{counted}
 use Rattle.xd_report.proofs.Moves.{reach}

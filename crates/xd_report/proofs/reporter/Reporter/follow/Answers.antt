@@ -1,6 +1,6 @@
 use Rattle.std.proofs.Common.{List, take, subst, sym, arith}
 use Rattle.xd_journal.specs.declared.entry.Entry.{Entry}
-use Rattle.xd_ledger.specs.State.{after_entries}
+use Rattle.xd_run.specs.State.{after_entries}
 use Rattle.xd_report.specs.Follows.{Follows}
 use Rattle.xd_report.proofs.Texts.{after_effect-step}
 use Rattle.xd_report.proofs.reporter.Reporter.follow.Goals as goal

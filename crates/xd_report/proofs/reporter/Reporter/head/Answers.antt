@@ -1,6 +1,6 @@
 use Rattle.std.proofs.Common.{List, map, ap, sym, ◌∙◌}
-use Rattle.xd_ledger.specs.Numbers.{first_of}
-use Rattle.xd_ledger.specs.Table.{held_in}
+use Rattle.xd_run.specs.Numbers.{first_of}
+use Rattle.xd_run.specs.Table.{held_in}
 use Rattle.xd_held.specs.declared.holder.Holder.{Holder}
 use Rattle.xd_held.specs.Holders.{seat_of_holder}
 use Rattle.xd_report.proofs.Kept.{held_kept}

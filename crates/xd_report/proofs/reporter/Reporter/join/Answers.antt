@@ -1,6 +1,6 @@
-use Rattle.xd_ledger.specs.Books.{on_table}
-use Rattle.xd_ledger.specs.Sharing.{in_books}
-use Rattle.xd_ledger.specs.Table.{joined}
+use Rattle.xd_run.specs.Books.{on_table}
+use Rattle.xd_run.specs.Sharing.{in_books}
+use Rattle.xd_run.specs.Table.{joined}
 use Rattle.xd_report.proofs.reporter.Reporter.join.Goals as goal
 
 pub returns : goal.returns

@@ -1,6 +1,6 @@
 use Rattle.std.proofs.Common.{sym, ◌∙◌, ap}
-use Rattle.xd_ledger.specs.Books.{Books, marked}
-use Rattle.xd_ledger.specs.Workers.{made_gone}
+use Rattle.xd_run.specs.Books.{Books, marked}
+use Rattle.xd_run.specs.Workers.{made_gone}
 use Rattle.xd_report.proofs.Kept.{left_kept}
 use Rattle.xd_report.proofs.reporter.Reporter.leave.Goals as goal
 

@@ -1,6 +1,6 @@
 use Rattle.std.proofs.Common.{◌++◌, List, ℕ, take, subst, sym, ◌∙◌, ap, arith}
 use Rattle.xd_journal.specs.declared.entry.Entry.{Entry}
-use Rattle.xd_ledger.specs.State.{after_entries, reached}
+use Rattle.xd_run.specs.State.{after_entries, reached}
 use Rattle.xd_report.specs.Follows.{Follows}
 use Rattle.xd_report.specs.Lines.{lines_of}
 use Rattle.xd_report.proofs.Texts.{after_effect-step, lines-step}

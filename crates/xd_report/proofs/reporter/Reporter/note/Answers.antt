@@ -1,6 +1,6 @@
 use Rattle.std.proofs.Common.{ℕ, List, ◌∙◌, subst, OnOk}
-use Rattle.xd_ledger.specs.Handing.{after_run}
-use Rattle.xd_ledger.specs.State.{settled}
+use Rattle.xd_run.specs.Handing.{after_run}
+use Rattle.xd_run.specs.State.{settled}
 use Rattle.xd_report.specs.Follows.{Follows}
 use Rattle.xd_report.proofs.Moves.{settle}
 use Rattle.xd_report.proofs.reporter.Reporter.note.Goals as goal

@@ -1,6 +1,6 @@
 use Rattle.std.proofs.Common.{true, refl, sym, ◌∙◌, ap}
-use Rattle.xd_ledger.specs.Books.{Books, marked}
-use Rattle.xd_ledger.specs.Workers.{made_shut}
+use Rattle.xd_run.specs.Books.{Books, marked}
+use Rattle.xd_run.specs.Workers.{made_shut}
 use Rattle.xd_report.proofs.Kept.{change_not_kept}
 use Rattle.xd_report.proofs.reporter.Reporter.tell.Goals as goal
 

@@ -1,6 +1,6 @@
 use Rattle.std.proofs.Common.{refl}
 use Rattle.xd_ledger.specs.Calls.{death_plan}
-use Rattle.xd_ledger.specs.Modes.ModeCall.{Died}
+use Rattle.xd_run.specs.Modes.ModeCall.{Died}
 use Rattle.xd_scope.specs.declared.units.Units.{Units}
 use Rattle.xd_scope.proofs.ModeTurns.{fits-of, keeps-death, turned-at}
 use Rattle.xd_scope.proofs.scope.ScopeMode.died.Goals as goal

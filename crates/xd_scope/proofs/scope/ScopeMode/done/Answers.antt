@@ -1,4 +1,4 @@
-use Rattle.xd_ledger.specs.Modes.ModeCall.{TestDone}
+use Rattle.xd_run.specs.Modes.ModeCall.{TestDone}
 use Rattle.xd_scope.proofs.ModeTurns.{turned-at}
 use Rattle.xd_scope.proofs.scope.ScopeMode.done.Goals as goal
 

@@ -1,6 +1,6 @@
 use Rattle.std.proofs.Common.{refl}
-use Rattle.xd_ledger.specs.Modes.ModeCall.{Share}
-use Rattle.xd_ledger.specs.Sharing.{shared_plan}
+use Rattle.xd_run.specs.Modes.ModeCall.{Share}
+use Rattle.xd_run.specs.Sharing.{shared_plan}
 use Rattle.xd_scope.specs.declared.units.Units.{Units}
 use Rattle.xd_scope.proofs.ModeTurns.{few-ids, fits-of, keeps-shared, turned-at}
 use Rattle.xd_scope.proofs.scope.ScopeMode.share.Goals as goal

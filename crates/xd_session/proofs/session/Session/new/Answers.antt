@@ -1,12 +1,12 @@
 use Rattle.std.proofs.Common.{◌≡◌, ap, sym, subst, ◌∙◌, List}
 use Rattle.xd_journal.specs.declared.settings.Settings.{Settings}
-use Rattle.xd_ledger.specs.Books.{Books}
-use Rattle.xd_ledger.specs.State.{after_entries, no_one}
-use Rattle.xd_ledger.specs.Histories.{starts_from}
-use Rattle.xd_run_books.specs.declared.logs.WorkerLog.{WorkerLog}
-use Rattle.xd_run_books.specs.Books.{books_of}
-use Rattle.xd_run_books.specs.Known.{known_by}
-use Rattle.xd_rules.specs.Rules.{InStep}
+use Rattle.xd_run.specs.Books.{Books}
+use Rattle.xd_run.specs.State.{after_entries, no_one}
+use Rattle.xd_run.specs.Histories.{starts_from}
+use Rattle.xd_session_books.specs.declared.logs.WorkerLog.{WorkerLog}
+use Rattle.xd_session_books.specs.Books.{books_of}
+use Rattle.xd_session_books.specs.Known.{known_by}
+use Rattle.xd_session_rules.specs.Rules.{InStep}
 use Rattle.xd_session.proofs.Begin.{begun-step}
 use Rattle.xd_session.proofs.Steady.{owed-following}
 use Rattle.xd_session.proofs.session.Session.new.Goals as goal

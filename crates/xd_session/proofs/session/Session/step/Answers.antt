@@ -1,7 +1,7 @@
 use Rattle.std.proofs.Common.{◌≡◌, ap, ◌∙◌, true}
-use Rattle.xd_ledger.specs.Books.{Books}
-use Rattle.xd_ledger.specs.Workers.{is_active}
-use Rattle.xd_run_books.specs.Books.{books_of}
+use Rattle.xd_run.specs.Books.{Books}
+use Rattle.xd_run.specs.Workers.{is_active}
+use Rattle.xd_session_books.specs.Books.{books_of}
 use Rattle.xd_session.specs.Stands.{SessionSeen, state_of}
 use Rattle.xd_session.proofs.Steady.{owed-following, stands-inside, stands-next, steady, step-new, step-next}
 use Rattle.xd_session.proofs.session.Session.step.Goals as goal

@@ -4,12 +4,12 @@ use Rattle.xd_journal.specs.declared.entry.Entry.{Entry}
 use Rattle.xd_journal.specs.declared.entry.Entry.TheVariants.{Back, Finished, NotStarted}
 use Rattle.xd_journal.specs.declared.news.What.{What}
 use Rattle.xd_journal.specs.declared.news.What.TheVariants as what
-use Rattle.xd_ledger.specs.Meaning.{Log, breach, given_ids, meaning_of, spent_by}
-use Rattle.xd_ledger.specs.Proper.{may_follow}
-use Rattle.xd_rules.specs.declared.judge.Verdict.TheVariants.{Follows}
-use Rattle.xd_rules.specs.Judged.{judged}
-use Rattle.xd_run_books.specs.Kept.{log_in}
-use Rattle.xd_rules.proofs.Shares.{given-is}
+use Rattle.xd_run.specs.Meaning.{Log, breach, given_ids, meaning_of, spent_by}
+use Rattle.xd_run.specs.Proper.{may_follow}
+use Rattle.xd_session_rules.specs.declared.judge.Verdict.TheVariants.{Follows}
+use Rattle.xd_session_rules.specs.Judged.{judged}
+use Rattle.xd_session_books.specs.Kept.{log_in}
+use Rattle.xd_session_rules.proofs.Shares.{given-is}
 use Rattle.xd_session.proofs.Taking.{collection, comes, follows-fine, meaning-fine, never-follows, told-ruled}
 use Rattle.xd_session.proofs.take.Core.follow.Goals as goal
 

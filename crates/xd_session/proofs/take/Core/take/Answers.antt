@@ -1,13 +1,13 @@
 use Rattle.std.proofs.Common.{◌≡◌, ap, sym, subst, ◌∙◌, ℕ, List}
 use Rattle.std.specs.Prelude.{◌==◌, if◌then◌else◌}
-use Rattle.xd_ledger.specs.Meaning.{with_news}
-use Rattle.xd_rules.specs.declared.judge.Verdict.TheVariants.{Silent, Follows, Breach}
-use Rattle.xd_run_books.specs.declared.logs.WorkerLog.{WorkerLog}
-use Rattle.xd_run_books.specs.Books.{books_of}
-use Rattle.xd_rules.specs.Judged.{judged}
-use Rattle.xd_run_books.specs.Kept.{log_in, shortened}
-use Rattle.xd_run_books.specs.Known.{known_by}
-use Rattle.xd_session.specs.Told.{TookNews}
+use Rattle.xd_run.specs.Meaning.{with_news}
+use Rattle.xd_session_rules.specs.declared.judge.Verdict.TheVariants.{Silent, Follows, Breach}
+use Rattle.xd_session_books.specs.declared.logs.WorkerLog.{WorkerLog}
+use Rattle.xd_session_books.specs.Books.{books_of}
+use Rattle.xd_session_rules.specs.Judged.{judged}
+use Rattle.xd_session_books.specs.Kept.{log_in, shortened}
+use Rattle.xd_session_books.specs.Known.{known_by}
+use Rattle.xd_session.specs.inner.Told.{TookNews}
 use Rattle.xd_session.proofs.Taking.{meaning-breach, meaning-silent, told-as, told-none, took-follows}
 use Rattle.xd_session.proofs.take.Core.take.Goals as goal
 

@@ -1,5 +1,5 @@
 use Rattle.std.proofs.Common.{◌∙◌}
-use Rattle.xd_ledger.specs.Sharing.{shared_plan}
+use Rattle.xd_run.specs.Sharing.{shared_plan}
 use Rattle.xd_steal.proofs.Rules.{shares}
 use Rattle.xd_steal.proofs.steal.StealMode.share.Goals as goal
 

@@ -1,5 +1,5 @@
 use Rattle.std.proofs.Common.{refl}
-use Rattle.xd_ledger.specs.State.{no_one}
+use Rattle.xd_run.specs.State.{no_one}
 use Rattle.xd_tests_runs.proofs.drive.script.run_steal.Goals as goal
 
 pub run_in-requires-clause-fresh : goal.run_in-requires-clause-fresh

@@ -1,7 +1,7 @@
 use Rattle.std.proofs.Common.{Bool, ap, subst, ◌∙◌}
 use Rattle.xd_value.specs.View.{view}
-use Rattle.xd_gateway.specs.declared.function.Called.{Called}
-use Rattle.xd_gateway.specs.Functions.{called_in}
+use Rattle.xd_commands.specs.declared.function.Called.{Called}
+use Rattle.xd_commands.specs.Functions.{called_in}
 use Rattle.xd_worker.specs.Turns.{called}
 use Rattle.xd_worker.specs.Stands.{IsWorkerTurn}
 use Rattle.xd_worker.proofs.Standing.{called_is}

@@ -1,5 +1,5 @@
 use Rattle.std.proofs.Common.{sym, subst, None}
-use Rattle.xd_run_tests.specs.declared.ask.Ask.{Ask}
+use Rattle.xd_worker_tests.specs.declared.ask.Ask.{Ask}
 use Rattle.xd_worker.specs.Talk.{function_ended}
 use Rattle.xd_worker.specs.Turns.{asked, at_talk}
 use Rattle.xd_worker.specs.Logs.{AllOpen}

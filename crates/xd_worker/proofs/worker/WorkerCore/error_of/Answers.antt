@@ -1,5 +1,5 @@
 use Rattle.std.proofs.Common.{◌∙◌}
-use Rattle.xd_gateway.proofs.WordBytes.{chars_word}
+use Rattle.xd_commands.proofs.WordBytes.{chars_word}
 use Rattle.xd_worker.proofs.worker.WorkerCore.error_of.Goals as goal
 
 pub returns : goal.returns

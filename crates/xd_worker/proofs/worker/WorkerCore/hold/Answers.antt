@@ -1,5 +1,5 @@
 use Rattle.std.proofs.Common.{refl, false, ap, subst, ◌∙◌}
-use Rattle.xd_run_tests.specs.declared.input.Input.{Input}
+use Rattle.xd_worker_tests.specs.declared.input.Input.{Input}
 use Rattle.xd_worker.specs.Turns.{fed, suite_input}
 use Rattle.xd_worker.specs.Logs.{AllOpen}
 use Rattle.xd_worker.specs.Stands.{IsWorkerTurn}

@@ -1,6 +1,6 @@
 use Rattle.std.proofs.Common.{sym, subst}
-use Rattle.xd_gateway.specs.declared.function.Called.TheVariants.{Runs}
-use Rattle.xd_gateway.specs.declared.function.Function.{Function}
+use Rattle.xd_commands.specs.declared.function.Called.TheVariants.{Runs}
+use Rattle.xd_commands.specs.declared.function.Function.{Function}
 use Rattle.xd_worker.specs.Turns.{called}
 use Rattle.xd_worker.specs.Stands.{IsWorkerTurn}
 use Rattle.xd_worker.proofs.worker.WorkerCore.run.Goals as goal

@@ -1,0 +1,5 @@
+pub mod Fitting
+pub mod Fours
+pub mod ReadBack
+pub mod Tuples
+pub mod WordBytes

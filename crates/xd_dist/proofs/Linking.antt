@@ -1,0 +1,104 @@
+-- A run over a hub of links, from its first start to its last link.
+use Rattle.std.specs.Prelude.{Result, Ok, Err, IfOk, OnOk, option_map}
+use Rattle.std.proofs.lemmas.List.Elements.{All-map}
+use Rattle.std.proofs.lemmas.Result.{IfOk-at_ok}
+use Rattle.std.proofs.lemmas.Simd.{map-map}
+use Rattle.std.proofs.Common.{◌≡◌, ℕ, List, [], ◌++◌, map, false, not, Option, Some, None, refl, sym, ◌∙◌, ap, subst, All}
+use Rattle.xd_edge.specs.Faults.{Counted, RoseBy}
+use Rattle.xd_edge.specs.Sink.{Sunk}
+use Rattle.xd_edge.specs.declared.mode.ModeKind.{ModeKind}
+use Rattle.xd_link.specs.Starter.{Begun}
+use Rattle.xd_link.specs.declared.place.Place.{Place}
+use Rattle.xd_link.specs.declared.starter.StartRun.{StartRun}
+use Rattle.xd_journal.specs.declared.entry.Entry.{Entry}
+use Rattle.xd_journal.specs.declared.journal.Journal.{Journal}
+use Rattle.xd_journal.specs.declared.news.News.{News}
+use Rattle.xd_run.specs.Ending.{stop_of}
+use Rattle.xd_report.specs.Status.{status_of}
+use Rattle.xd_session.specs.Ends.{is_out_fault}
+use Rattle.xd_drive.specs.declared.running.DrivenRun.{DrivenRun}
+use Rattle.xd_drive.specs.Driven.{Broken, IsJournalOf, Whole}
+use Rattle.xd_drive.specs.Listed.{is_listed, starts_of}
+use Rattle.xd_drive.specs.Marks.{no_marks}
+use Rattle.xd_starts.specs.Children.{AskedOfLink, ToldByStarter, link_asked, told_of}
+use Rattle.xd_group.specs.Fates.{has_link, is_linked, is_refused, is_unlinked, workers_with}
+use Rattle.xd_group.specs.Few.{RoseFor, count_with}
+use Rattle.xd_group.specs.InStep.{all_started}
+use Rattle.xd_group.specs.Kills.{EndKilledSo}
+use Rattle.xd_group.specs.Returned.{RanSo, end_told}
+use Rattle.xd_group.specs.Tells.{marks_told, workers_started}
+use Rattle.xd_group.specs.Unsaid.{SaidUnlinked}
+use Rattle.xd_group.specs.declared.fate.Fate.{Fate}
+use Rattle.xd_dist.specs.Linked.{DrivesTo, EndedLink, LinkedRun, RunsLinked, LinksSeen, Setup, scene_told}
+
+-- a hub that was called for nothing and gave nothing has marked no worker
+pub unmarked : (calls : List Entry) (given : List News) → calls ≡ [] → given ≡ [] → (w : ℕ) → marks_told calls given w ≡ no_marks
+unmarked calls given c g w = rw (c, g) refl
+
+pub whole_from : (j : Journal) (first calls : List Entry) (was given : List News) (s0 s1 : Option Sunk) → first ≡ [] → was ≡ [] → (taken : List News) × Whole taken j (scene_told first was s0) (scene_told calls given s1)
+    → (taken : List News) × Whole taken j (scene_told [] [] s0) (scene_told calls given s1)
+whole_from j first calls was given s0 s1 c g w =
+    subst (λ (f : List Entry). (taken : List News) × Whole taken j (scene_told f [] s0) (scene_told calls given s1)) c
+    (subst (λ (n : List News). (taken : List News) × Whole taken j (scene_told first n s0) (scene_told calls given s1)) g w)
+
+pub broken_from : (j : Journal) (first calls : List Entry) (was given : List News) (s0 s1 : Option Sunk) → first ≡ [] → was ≡ [] → (count : ℕ) × (taken : List News) × Broken count taken j (scene_told first was s0) (scene_told calls given s1)
+    → (count : ℕ) × (taken : List News) × Broken count taken j (scene_told [] [] s0) (scene_told calls given s1)
+broken_from j first calls was given s0 s1 c g w =
+    subst (λ (f : List Entry). (count : ℕ) × (taken : List News) × Broken count taken j (scene_told f [] s0) (scene_told calls given s1)) c
+    (subst (λ (n : List News). (count : ℕ) × (taken : List News) × Broken count taken j (scene_told first n s0) (scene_told calls given s1)) g w)
+
+-- what a starter tells at last, by what it told at first
+pub begun_from : (first : Option Begun) (now : Option ToldByStarter) (more : List StartRun) (asked : List AskedOfLink) → now ≡ option_map (λ b. record { starts = b.starts ++ more; links = map link_asked b.links ++ asked }) first
+    → now ≡ option_map (λ b. record { starts = b.starts ++ more; links = b.links ++ asked }) (option_map told_of first)
+begun_from None now more asked e = e
+begun_from (Some b) now more asked e = e
+
+-- a run by what the hub took and gave and what its links left
+pub runs_linked : {A : Type 0} (seen : A → EndedLink) (ends : List A) (setup : Setup) (now : List ℕ) (mode : ModeKind) (j : Journal) (calls : List Entry) (given : List News) (workers : List ℕ) (fates : List Fate) (places : List Place)
+    (first : Option Begun) (last : Option ToldByStarter) (starter_old starter_new crew_old crew_new out_old out_new : ℕ) (s0 s1 : Option Sunk)
+    → now ≡ setup.suite → mode ≡ setup.settings.mode → workers ≡ workers_started calls → places ≡ setup.places → DrivesTo j calls given s0 s1
+    → map (λ a. (seen a).worker) ends ≡ workers_with has_link workers fates
+    → All (λ a. ∥ RanSo now mode given calls (workers_with is_refused workers fates) (seen a).worker (seen a).link ∥₁) ends
+    → last ≡ option_map (λ b. record { starts = b.starts ++ all_started places (starts_of calls) fates; links = map link_asked b.links ++ map (λ a. end_told (seen a).killed) ends }) first
+    → All (λ a. ∥ EndKilledSo calls given (workers_with is_refused workers fates) (seen a).worker (seen a).killed (seen a).link.writes ∥₁) ends
+    → ((w : ℕ) → is_listed w (workers_with is_linked workers fates) ≡ false → ∥ SaidUnlinked given w ∥₁)
+    → RoseFor (count_with is_refused fates) crew_old crew_new → RoseBy (count_with is_unlinked fates) starter_old starter_new
+    → RunsLinked setup j (map seen ends) (record { begun = option_map told_of first; starter_faults = starter_old; crew_faults = crew_old; sunk = s0; out_faults = out_old }) (record { begun = last; starter_faults = starter_new; crew_faults = crew_new; sunk = s1; out_faults = out_new })
+runs_linked {A} seen ends setup now mode j calls given workers fates places first last starter_old starter_new crew_old crew_new out_old out_new s0 s1 same in_mode listed at drives all each begun killed unlinked refused failed = record {
+  calls = calls;
+  given = given;
+  fates = fates;
+  drives = drives;
+  all = map-map (λ l. l.worker) seen ends ∙ (all ∙ ap (λ (ws : List ℕ). workers_with has_link ws fates) listed);
+  each = All-map (λ l. ∥ RanSo setup.suite setup.settings.mode given calls (workers_with is_refused (workers_started calls) fates) l.worker l.link ∥₁) seen ends
+      (subst (λ (ws : List ℕ). All (λ a. ∥ RanSo setup.suite setup.settings.mode given calls (workers_with is_refused ws fates) (seen a).worker (seen a).link ∥₁) ends) listed
+      (subst (λ (k : ModeKind). All (λ a. ∥ RanSo setup.suite k given calls (workers_with is_refused workers fates) (seen a).worker (seen a).link ∥₁) ends) in_mode
+      (subst (λ (l : List ℕ). All (λ a. ∥ RanSo l mode given calls (workers_with is_refused workers fates) (seen a).worker (seen a).link ∥₁) ends) same each)));
+  begun = subst (λ (ps : List Place). last ≡ option_map (λ b. record { starts = b.starts ++ all_started ps (starts_of calls) fates; links = b.links ++ map (λ l. end_told l.killed) (map seen ends) }) (option_map told_of first)) at
+      (subst (λ (asked : List AskedOfLink). last ≡ option_map (λ b. record { starts = b.starts ++ all_started places (starts_of calls) fates; links = b.links ++ asked }) (option_map told_of first)) (sym (map-map (λ l. end_told l.killed) seen ends))
+      (begun_from first last (all_started places (starts_of calls) fates) (map (λ a. end_told (seen a).killed) ends) begun));
+  killed = All-map (λ l. ∥ EndKilledSo calls given (workers_with is_refused (workers_started calls) fates) l.worker l.killed l.link.writes ∥₁) seen ends
+      (subst (λ (ws : List ℕ). All (λ a. ∥ EndKilledSo calls given (workers_with is_refused ws fates) (seen a).worker (seen a).killed (seen a).link.writes ∥₁) ends) listed killed);
+  unlinked = λ w out. unlinked w (ap (λ (ws : List ℕ). is_listed w (workers_with is_linked ws fates)) listed ∙ out);
+  few_refused = refused;
+  few_unlinked = failed;
+}
+
+-- what is seen of a hub that stayed as it was, where the run came to its end
+pub seen_as : {Ends E H : Type 0} (ended : Result (DrivenRun × Ends) E) (seen : Ends → List EndedLink) (setup : Setup) (old : LinksSeen) (f : H → LinksSeen) (before after : H) → OnOk ended (after ≡ before)
+    → IfOk ended (λ r. RunsLinked setup r.0.journal (seen r.1) old (f before)) → IfOk ended (λ r. RunsLinked setup r.0.journal (seen r.1) old (f after))
+seen_as {H = H} (Ok r) seen setup old f before after same runs = subst (λ (h : H). RunsLinked setup r.0.journal (seen r.1) old (f h)) (sym same) runs
+seen_as (Err e) seen setup old f before after same runs = tt
+
+-- a run by what was driven and what its links left
+pub linked_run : {Ends E : Type 0} (ended : Result (DrivenRun × Ends) E) (seen : Ends → List EndedLink) (now setup : Setup) (old new : LinksSeen) (j : Journal) (ends : Ends) (code : ℕ)
+    → now ≡ setup → ended ≡ Ok (record { journal = j; status = code }, ends) → IfOk ended (λ r. r.0.status ≡ status_of r.0.journal)
+    → IfOk ended (λ r. IsJournalOf now.settings r.0.journal) → IfOk ended (λ r. RunsLinked now r.0.journal (seen r.1) old new)
+    → IfOk ended (λ r. Counted (not (is_out_fault (stop_of r.0.journal))) old.out_faults new.out_faults)
+    → LinkedRun setup j code (seen ends) old new
+linked_run {Ends} {E} ended seen now setup old new j ends code same e status journal runs counted = record {
+  journal = subst (λ (s : Setup). IsJournalOf s.settings j) same (IfOk-at_ok (λ (r : DrivenRun × Ends). IsJournalOf now.settings r.0.journal) e journal);
+  status = IfOk-at_ok (λ (r : DrivenRun × Ends). r.0.status ≡ status_of r.0.journal) e status;
+  runs = subst (λ (s : Setup). RunsLinked s j (seen ends) old new) same (IfOk-at_ok (λ (r : DrivenRun × Ends). RunsLinked now r.0.journal (seen r.1) old new) e runs);
+  counted = IfOk-at_ok (λ (r : DrivenRun × Ends). Counted (not (is_out_fault (stop_of r.0.journal))) old.out_faults new.out_faults) e counted;
+}

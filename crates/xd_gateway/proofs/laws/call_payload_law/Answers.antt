@@ -1,5 +1,0 @@
-use Rattle.xd_gateway.proofs.Fitting.{call_dumped}
-use Rattle.xd_gateway.proofs.laws.call_payload_law.Goals as goal
-
-pub returns : goal.returns
-returns c = call_dumped

@@ -1,5 +1,0 @@
-use Rattle.xd_gateway.proofs.ReadBack.{order_read}
-use Rattle.xd_gateway.proofs.laws.order_law.Goals as goal
-
-pub returns : goal.returns
-returns c = order_read

@@ -1,5 +1,0 @@
-use Rattle.xd_gateway.proofs.ReadBack.{order_back}
-use Rattle.xd_gateway.proofs.orders.order_value.Goals as goal
-
-pub returns-clause-back : goal.returns-clause-back
-returns-clause-back c = order_back _ _ c.order_fits.ensures c.in_ok-value.ensures

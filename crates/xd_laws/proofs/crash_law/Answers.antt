@@ -1,5 +1,0 @@
-use Rattle.xd_laws.proofs.Crashes.{death-of}
-use Rattle.xd_laws.proofs.crash_law.Goals as goal
-
-pub returns : goal.returns
-returns c = death-of

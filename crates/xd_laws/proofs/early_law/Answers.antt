@@ -1,5 +1,0 @@
-use Rattle.xd_laws.proofs.Laws.{no_early}
-use Rattle.xd_laws.proofs.early_law.Goals as goal
-
-pub returns : goal.returns
-returns c = no_early

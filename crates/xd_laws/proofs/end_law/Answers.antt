@@ -1,5 +1,0 @@
-use Rattle.xd_laws.proofs.Whole.{ends-whole}
-use Rattle.xd_laws.proofs.end_law.Goals as goal
-
-pub returns : goal.returns
-returns c = ends-whole

@@ -1,5 +1,0 @@
-use Rattle.xd_laws.proofs.Laws.{in_one_place}
-use Rattle.xd_laws.proofs.one_place_law.Goals as goal
-
-pub returns : goal.returns
-returns c = in_one_place

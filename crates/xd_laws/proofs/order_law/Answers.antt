@@ -1,5 +1,0 @@
-use Rattle.xd_laws.proofs.Laws.{orderly}
-use Rattle.xd_laws.proofs.order_law.Goals as goal
-
-pub returns : goal.returns
-returns c = orderly

@@ -1,5 +1,0 @@
-use Rattle.xd_laws.proofs.OwingRuns.{owed}
-use Rattle.xd_laws.proofs.owes_law.Goals as goal
-
-pub returns : goal.returns
-returns c = owed

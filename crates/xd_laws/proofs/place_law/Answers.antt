@@ -1,5 +1,0 @@
-use Rattle.xd_laws.proofs.Laws.{last_decides}
-use Rattle.xd_laws.proofs.place_law.Goals as goal
-
-pub returns : goal.returns
-returns c = last_decides

@@ -1,5 +1,0 @@
-use Rattle.xd_laws.proofs.Laws.{was_shared}
-use Rattle.xd_laws.proofs.shared_law.Goals as goal
-
-pub returns : goal.returns
-returns c = was_shared

@@ -1,5 +1,0 @@
-use Rattle.xd_laws.proofs.Whole.{names-whole}
-use Rattle.xd_laws.proofs.whole_law.Goals as goal
-
-pub returns : goal.returns
-returns c = names-whole

@@ -1,8 +1,0 @@
-use Rattle.xd_listen.specs.Seen.{seen}
-use Rattle.xd_listen.proofs.Hears.{done_heard}
-use Rattle.xd_listen.proofs.server.Server.hear_done.Goals as goal
-
-pub returns-clause-heard : goal.returns-clause-heard
-returns-clause-heard g c = λ a files old new measured s.
-    done_heard a _ (seen g.N.Sink.sunk g.N.Sink.faults c.args.self.now) c.tell.new.self.core c.tell.new.self.is_broken (g.N.Sink.sunk c.tell.new.self.sink) (g.N.Sink.faults c.tell.new.self.sink) c.in_ok-_acts._acts
-    c.in_ok-_acts.ensures.writes c.in_ok-_acts.ensures.count c.tell.ensures.later c.args.outcome c.args.ms new c.requires.runs measured c.in_ok-_acts.ensures.answers s

@@ -1,8 +1,0 @@
-pub mod Ends
-pub mod Heard
-pub mod LinkRun
-pub mod Orders
-pub mod Pages
-pub mod PeerView
-pub mod Sent
-pub mod ToLink

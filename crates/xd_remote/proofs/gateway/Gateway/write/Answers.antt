@@ -1,5 +1,0 @@
-use Rattle.xd_remote.proofs.Saying.{kept_stands}
-use Rattle.xd_remote.proofs.gateway.Gateway.write.Goals as goal
-
-pub returns-clause-stands : goal.returns-clause-stands
-returns-clause-stands g c h s = kept_stands c.args.self.now c.print.new.self h c.print.ensures.rest s

@@ -1,4 +1,0 @@
-pub mod Failures
-pub mod Ids
-pub mod Named
-mod Rows

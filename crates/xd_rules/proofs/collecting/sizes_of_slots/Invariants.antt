@@ -1,6 +1,0 @@
-use Rattle.std.proofs.Common.{◌≡◌}
-use Rattle.xd_ledger.specs.Sharing.{sizes_from}
-use Rattle.xd_rules.proofs.collecting.sizes_of_slots.Given as goal
-
-abbrev pub invariant-loop-slot : goal.invariant-loop-slot
-invariant-loop-slot l = l.items.items ≡ sizes_from l.lists 0 l.slot

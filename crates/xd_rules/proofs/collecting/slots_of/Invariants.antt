@@ -1,8 +1,0 @@
-use Rattle.std.proofs.Common.{◌≡◌, take, map}
-use Rattle.xd_ledger.specs.Table.{workers_of}
-use Rattle.xd_ledger.specs.Workers.{slot_of}
-use Rattle.xd_run_books.specs.Books.{books_of}
-use Rattle.xd_rules.proofs.collecting.slots_of.Given as goal
-
-abbrev pub invariant-loop-place : goal.invariant-loop-place
-invariant-loop-place l = l.items.items ≡ map (λ w. slot_of w (books_of l.books)) (take l.place (workers_of l.books.ledger))

@@ -1,5 +1,0 @@
-use Rattle.xd_run_tests.proofs.Starts.{starts_once}
-use Rattle.xd_run_tests.proofs.laws.a_test_starts_once.Goals as goal
-
-pub returns : goal.returns
-returns c = starts_once

@@ -1,5 +1,0 @@
-use Rattle.std.proofs.Common.{refl}
-use Rattle.xd_run_tests.proofs.laws.two_steals.Goals as goal
-
-pub returns : goal.returns
-returns c = record { asks = refl; runs = refl }

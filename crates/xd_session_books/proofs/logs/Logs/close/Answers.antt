@@ -1,0 +1,17 @@
+use Rattle.std.proofs.Common.{◌≡◌, refl, ap, ◌∙◌, arith}
+use Rattle.std.proofs.lemmas.Grind.{common_steps}
+use Rattle.xd_journal.specs.declared.news.What.TheVariants as what
+use Rattle.xd_run.specs.Meaning.{with_news}
+use Rattle.xd_session_books.specs.Kept.{place_of}
+use Rattle.xd_session_books.proofs.Places.{log-changed, log-kept}
+use Rattle.xd_session_books.proofs.logs.Logs.close.Goals as goal
+
+pub returns-then-place-len : goal.returns-then-place-len
+returns-then-place-len c = λ v number.
+    (let p : c.place_of-place.result ≡ place_of c.args.worker c.self.inside.items.items = c.place_of-place.ensures ∙ ap (place_of c.args.worker) c.deref.ensures.value in
+    log-changed (λ o. with_news o (what.LogClosed number)) v c.args.worker _ _ _ c.index_mut.result.now _ c.self.view_is p (grind (arith, common_steps)) c.index_mut.ensures.value refl refl)
+
+pub returns-else-place-len : goal.returns-else-place-len
+returns-else-place-len c = λ v number.
+    (let p : c.place_of-place.result ≡ place_of c.args.worker c.self.inside.items.items = c.place_of-place.ensures ∙ ap (place_of c.args.worker) c.deref.ensures.value in
+    log-kept (λ o. with_news o (what.LogClosed number)) v c.args.worker _ _ _ c.self.view_is p (grind (arith, common_steps)) refl)

@@ -1,0 +1,10 @@
+-- What was noted in a trace.
+use Rattle.std.specs.Prelude.{List, map}
+use Rattle.rtrb.specs.Ring.{sent}
+use Rattle.xd_trace.specs.declared.trace.Trace.{Trace}
+
+module _ {T : Type 0} where
+  -- what was noted, in order
+  -- Nothing of it is kept when the program runs.
+  abbrev pub noted : Trace T → List T
+  noted trace = map (λ s. s.value) (sent trace.to)

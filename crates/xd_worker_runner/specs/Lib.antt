@@ -1,0 +1,3 @@
+pub mod Programs
+pub mod Orders
+pub mod inner

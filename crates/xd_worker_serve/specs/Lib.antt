@@ -1,0 +1,10 @@
+pub mod Inputs
+pub mod Suites
+pub mod Programs
+pub mod Speaking
+pub mod Took
+pub mod Spoke
+pub mod Timing
+pub mod Ends
+pub mod Complete
+pub mod inner

@@ -1,0 +1,6 @@
+pub mod Running
+pub mod News
+pub mod Seen
+pub mod Serves
+pub mod Halts
+pub mod Joined
