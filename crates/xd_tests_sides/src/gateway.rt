@@ -12,7 +12,7 @@ use xd_journal::{Outcome, What};
 use xd_memory::MemSink;
 use xd_value::Value;
 
-fn gateway(alloc: Global) -> Result<Gateway<MemSink>, Fail> {
+pub fn gateway(alloc: Global) -> Result<Gateway<MemSink>, Fail> {
     let never = Indices {
         items: Vec::new(alloc),
     };
@@ -21,7 +21,7 @@ fn gateway(alloc: Global) -> Result<Gateway<MemSink>, Fail> {
 }
 
 // Calls `run_tests` with the suite `s.toml` in mode load.
-fn run_tests(alloc: Global, gateway: &mut Gateway<MemSink>) -> Result<u32, Fail> {
+pub fn run_tests(alloc: Global, gateway: &mut Gateway<MemSink>) -> Result<u32, Fail> {
     let name = Text::of(alloc, "run_tests")?;
     let suite = (
         Text::of(alloc, "suite")?,
