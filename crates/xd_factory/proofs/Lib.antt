@@ -11,4 +11,3 @@ pub mod Tracing
 pub mod Keeping
 pub mod SideTables
 pub mod Meanings
-mod Rows

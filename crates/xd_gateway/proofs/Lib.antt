@@ -7,4 +7,3 @@ pub mod Sides
 pub mod Hearing
 pub mod Saying
 pub mod Kwargs
-mod Rows

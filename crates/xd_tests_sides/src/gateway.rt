@@ -12,7 +12,7 @@ use xd_journal::{Outcome, What};
 use xd_memory::MemSink;
 use xd_value::Value;
 
-pub fn gateway(alloc: Global) -> Result<Gateway<MemSink>, Fail> {
+fn gateway(alloc: Global) -> Result<Gateway<MemSink>, Fail> {
     let never = Indices {
         items: Vec::new(alloc),
     };
@@ -21,7 +21,7 @@ pub fn gateway(alloc: Global) -> Result<Gateway<MemSink>, Fail> {
 }
 
 // Calls `run_tests` with the suite `s.toml` in mode load.
-pub fn run_tests(alloc: Global, gateway: &mut Gateway<MemSink>) -> Result<u32, Fail> {
+fn run_tests(alloc: Global, gateway: &mut Gateway<MemSink>) -> Result<u32, Fail> {
     let name = Text::of(alloc, "run_tests")?;
     let suite = (
         Text::of(alloc, "suite")?,
@@ -107,14 +107,12 @@ fn write_news(out: &mut String, news: &What) -> Result<(), AllocError> {
     }
 }
 
-// The news of the messages that these bytes are, in words. The bytes come one by one.
+// The news of the messages that these bytes are, in words.
 fn news_of(alloc: Global, bytes: &[u8]) -> Result<String, Fail> {
     let mut gateway = gateway(alloc)?;
     let _ = run_tests(alloc, &mut gateway)?;
     let mut framer = Framer::new(alloc);
-    for byte in bytes {
-        framer.feed(&[*byte])?;
-    }
+    framer.feed(bytes)?;
     let mut out = String::new(alloc);
     for _ in 0..100 {
         let Some(message) = framer.next() else {

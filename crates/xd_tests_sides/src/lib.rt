@@ -3,8 +3,6 @@
 #![tactic(auto)]
 
 #[cfg(test)]
-mod both_ends;
-#[cfg(test)]
 mod gateway;
 #[cfg(test)]
 mod pair;
