@@ -1,4 +1,4 @@
--- A command has a payload.
+-- A command has a payload, and so has the call that runs tests.
 use Rattle.std.proofs.Common.{not, ◌&&◌, length-append, Err, ◌≡◌, ℕ, suc, ◌+◌, ◌*◌, ◌<◌, ◌≤◌, max, nat_lt, pos, Bool, true, false, List, [], ◌∷◌, ◌++◌, length, map, Ok, refl, ap, sym, subst, arith}
 use Rattle.std.specs.Prelude.{codes, if◌then◌else◌}
 use Rattle.std.specs.Int.{w32, to_be_bytes}
@@ -8,7 +8,7 @@ use Rattle.std.proofs.lemmas.Fmt.{length-decimal-le}
 use Rattle.std.proofs.lemmas.Bool.{le-ltb}
 use Rattle.xd_edge.specs.Limits.{most_tests}
 use Rattle.xd_value.specs.declared.writing.DumpFault.TheVariants as fault
-use Rattle.xd_value.specs.Tree.{Tree, Trees, int, text, list, no_pairs, depth, trees_depth}
+use Rattle.xd_value.specs.Tree.{Tree, Trees, int, text, list, no_pairs, pair, depth, trees_depth}
 use Rattle.xd_value.specs.View.{trees_of}
 use Rattle.xd_value.specs.Canonical.{Test, Hashable, Distinct, Channels, all_pass, trees_pass, dumped, canonical, form, item_forms, int_form}
 use Rattle.xd_commands.specs.declared.order.Order.{Order}
@@ -19,24 +19,24 @@ use Rattle.xd_commands.specs.Orders.{order_tree, IsOrder}
 use Rattle.xd_commands.specs.Limits.{IsFew, run_tests_call}
 
 -- the numbers of tests, as a list of integers
-abbrev ints : List ℕ → Trees
+abbrev pub ints : List ℕ → Trees
 ints ns = trees_of (map (λ n. int (pos n)) ns)
 
-flat : (ns : List ℕ) → trees_depth (ints ns) ≡ 0
+pub flat : (ns : List ℕ) → trees_depth (ints ns) ≡ 0
 flat [] = refl
 flat (n ∷ ns) = ap (max 0) (flat ns)
 
-pass : (x : Test) (ns : List ℕ) → trees_pass x (ints ns) ≡ true
+pub pass : (x : Test) (ns : List ℕ) → trees_pass x (ints ns) ≡ true
 pass x [] = refl
 pass Hashable (n ∷ ns) = pass Hashable ns
 pass Distinct (n ∷ ns) = pass Distinct ns
 pass Channels (n ∷ ns) = pass Channels ns
 
-int_by : (n : ℕ) (b : Bool) → n < 4294967296 → length (if b then 70 ∷ to_be_bytes w32 n else 72 ∷ (to_be_bytes w32 (length (decimal n)) ++ decimal n)) ≤ 15
+pub int_by : (n : ℕ) (b : Bool) → n < 4294967296 → length (if b then 70 ∷ to_be_bytes w32 n else 72 ∷ (to_be_bytes w32 (length (decimal n)) ++ decimal n)) ≤ 15
 int_by n true h = omega arith
 int_by n false h = (let d = length-decimal-le 10 n (omega arith) (omega arith) (omega arith) in omega (arith, d))
 
-int_length : (n : ℕ) → n < 4294967296 → length (int_form (pos n)) ≤ 15
+pub int_length : (n : ℕ) → n < 4294967296 → length (int_form (pos n)) ≤ 15
 int_length n h = int_by n (nat_lt n 2147483648) h
 
 items_length : (i : ℕ) (ns : List ℕ) → AreIndices ns → i + length ns ≤ 4294967296 → length (item_forms i (ints ns)) ≤ 31 * length ns
@@ -60,23 +60,27 @@ chosen a b false d e bytes p q r s t = cc
 chosen a b c false e bytes p q r s t = cc
 chosen a b c d true bytes p q r s t = cc
 
-dumped_is : (t : Tree) → nat_lt 64 (depth t) ≡ false → all_pass Hashable t ≡ true → all_pass Distinct t ≡ true → all_pass Channels t ≡ true → nat_lt 16777216 (length (canonical t)) ≡ false → dumped t ≡ Ok (canonical t)
+pub dumped_is : (t : Tree) → nat_lt 64 (depth t) ≡ false → all_pass Hashable t ≡ true → all_pass Distinct t ≡ true → all_pass Channels t ≡ true → nat_lt 16777216 (length (canonical t)) ≡ false → dumped t ≡ Ok (canonical t)
 unfolding dumped
 dumped_is t a b c d e = chosen (nat_lt 64 (depth t)) (all_pass Hashable t) (all_pass Distinct t) (all_pass Channels t) (nat_lt 16777216 (length (canonical t))) (canonical t) a b c d e
+
+-- the call of a name with a list under one key
+abbrev pub listed : List ℕ → List ℕ → Trees → Tree
+listed name key ts = call_as_value name (pair (text key) (list ts) no_pairs)
+
+pub listed_shallow : (name key : List ℕ) (ts : Trees) → trees_depth ts ≡ 0 → nat_lt 64 (depth (listed name key ts)) ≡ false
+listed_shallow name key ts h = ap (λ (d : ℕ). nat_lt 64 (suc (max 0 (max (suc (max (max 0 (suc d)) 0)) 0)))) h
+
+pub listed_passes : (x : Test) (name key : List ℕ) (ts : Trees) → trees_pass x ts ≡ true → all_pass x (listed name key ts) ≡ true
+listed_passes Hashable name key ts h = subst (λ (b : Bool). ((b && true) && true) ≡ true) (sym h) refl
+listed_passes Distinct name key ts h = subst (λ (b : Bool). ((b && true) && true) ≡ true) (sym h) refl
+listed_passes Channels name key ts h = subst (λ (b : Bool). ((b && true) && true) ≡ true) (sym h) refl
 
 -- the call of a name with some numbers of tests
 abbrev numbered : List ℕ → List ℕ → Tree
 numbered name ns = call_as_value name (indices_kwargs ns)
 
-depth_is : (name ns : List ℕ) → nat_lt 64 (depth (numbered name ns)) ≡ false
-depth_is name ns = ap (λ (d : ℕ). nat_lt 64 (suc (max 0 (max (suc (max (max 0 (suc d)) 0)) 0)))) (flat ns)
-
-passes_all : (x : Test) (name ns : List ℕ) → all_pass x (numbered name ns) ≡ true
-passes_all Hashable name ns = subst (λ (b : Bool). ((b && true) && true) ≡ true) (sym (pass Hashable ns)) refl
-passes_all Distinct name ns = subst (λ (b : Bool). ((b && true) && true) ≡ true) (sym (pass Distinct ns)) refl
-passes_all Channels name ns = subst (λ (b : Bool). ((b && true) && true) ≡ true) (sym (pass Channels ns)) refl
-
-text_length : (cs : List ℕ) → length (form (text cs)) ≡ 5 + length (encode_utf8_all cs)
+pub text_length : (cs : List ℕ) → length (form (text cs)) ≡ 5 + length (encode_utf8_all cs)
 text_length cs = (let enc = encode_utf8_all cs in omega (arith, length-append (to_be_bytes w32 (length enc)) enc))
 
 sizes : (n k l t : List ℕ) → length (((n ++ ((74 ∷ (k ++ (l ++ (80 ∷ [])))) ++ [])) ++ t) ++ (81 ∷ [])) ≡ length n + length k + length l + length t + 3
@@ -115,9 +119,10 @@ fits name ns short h few =
     let items = items_length 0 ns h (omega arith) in
     le-ltb 16777216 _ (omega (arith, all, items, key_length))
 
-numbers_dumped : (name ns : List ℕ) → length (encode_utf8_all name) ≤ 100 → AreIndices ns → length ns ≤ most_tests → dumped (numbered name ns) ≡ Ok (canonical (numbered name ns))
+pub numbers_dumped : (name ns : List ℕ) → length (encode_utf8_all name) ≤ 100 → AreIndices ns → length ns ≤ most_tests → dumped (numbered name ns) ≡ Ok (canonical (numbered name ns))
 numbers_dumped name ns short h few =
-    dumped_is (numbered name ns) (depth_is name ns) (passes_all Hashable name ns) (passes_all Distinct name ns) (passes_all Channels name ns) (fits name ns short h few)
+    let key = codes "indices" in
+    dumped_is (numbered name ns) (listed_shallow name key (ints ns) (flat ns)) (listed_passes Hashable name key (ints ns) (pass Hashable ns)) (listed_passes Distinct name key (ints ns) (pass Distinct ns)) (listed_passes Channels name key (ints ns) (pass Channels ns)) (fits name ns short h few)
 
 -- a call without arguments
 bare_length : (name : List ℕ) → length (canonical (call_as_value name no_pairs)) ≡ length (encode_utf8_all name) + 12
@@ -126,7 +131,7 @@ bare_length name =
     let t = 64 ∷ to_be_bytes w32 2 in
     omega (arith, length-append (n ++ (74 ∷ [])) t, length-append ((n ++ (74 ∷ [])) ++ t) (81 ∷ []), length-append n (74 ∷ []), text_length name)
 
-bare_dumped : (name : List ℕ) → length (encode_utf8_all name) ≤ 100 → dumped (call_as_value name no_pairs) ≡ Ok (canonical (call_as_value name no_pairs))
+pub bare_dumped : (name : List ℕ) → length (encode_utf8_all name) ≤ 100 → dumped (call_as_value name no_pairs) ≡ Ok (canonical (call_as_value name no_pairs))
 bare_dumped name short =
     dumped_is (call_as_value name no_pairs) refl refl refl refl (le-ltb 16777216 _ (let all = bare_length name in omega (arith, all, short)))
 

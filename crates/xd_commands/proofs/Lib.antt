@@ -1,3 +1,4 @@
+pub mod EventFitting
 pub mod Fitting
 pub mod Fours
 pub mod ReadBack

@@ -31,12 +31,15 @@ done_kwargs n outcome ms =
     (pair (text (codes "code")) (int (outcome_code outcome))
     (pair (text (codes "duration")) (int (pos ms)) no_pairs)))
 
+-- a collection of tests with these ids, as it is written
+abbrev pub collection_tree : List (List ℕ) → Tree
+collection_tree ids = call_as_value (codes "collectionfinish") (pair (text (codes "ids")) (list (trees_of (map text ids))) no_pairs)
+
 -- an event, as it is written; the other news are no events
 -- Example: `("logstart", {"item_index": 0, "log": channel(2)})`; a failed test with the code 77 is no event.
 abbrev pub event_tree : What → Option Tree
 event_tree Ready = Some (call_as_value (codes "workerready") no_pairs)
-event_tree (Collected ids) =
-    Some (call_as_value (codes "collectionfinish") (pair (text (codes "ids")) (list (trees_of (map text ids))) no_pairs))
+event_tree (Collected ids) = Some (collection_tree ids)
 event_tree (LogStart n log) =
     Some (call_as_value (codes "logstart") (pair (text (codes "item_index")) (int (pos n)) (pair (text (codes "log")) (channel log) no_pairs)))
 event_tree (Done n outcome ms) = Some (call_as_value (codes "runtest_protocol_complete") (done_kwargs n outcome ms))

@@ -1,8 +1,14 @@
--- Which commands fit a payload. The call is as execnet's gateway.py, `remote_exec`, writes that of a function; the limit
+-- Which commands and events fit a payload. The call is as execnet's gateway.py, `remote_exec`, writes that of a function; the limit
 -- is a choice of this project.
-use Rattle.std.specs.Prelude.{ℕ, ◌≤◌, List, [], length, codes}
+use Rattle.std.specs.Prelude.{◌≡◌, ℕ, ◌<◌, ◌≤◌, true, List, [], length, codes}
+use Rattle.std.specs.List.{list_all}
+use Rattle.std.specs.Str.{all_scalars}
 use Rattle.xd_edge.specs.Limits.{most_tests}
+use Rattle.xd_value.specs.Canonical.{canonical}
 use Rattle.xd_value.specs.Tree.{Tree, none, text, dict, tuple, tree, no_trees, pair, no_pairs}
+use Rattle.xd_journal.specs.declared.news.What.{What}
+use Rattle.xd_journal.specs.declared.news.What.TheVariants.{Collected, LogStart, Back}
+use Rattle.xd_commands.specs.Events.{collection_tree}
 use Rattle.xd_commands.specs.declared.order.Order.{Order}
 use Rattle.xd_commands.specs.declared.order.Order.TheVariants.{RunTests, RunAll, Steal, Shutdown}
 
@@ -12,6 +18,18 @@ IsFew (RunTests ns) = length ns ≤ most_tests
 IsFew RunAll = Unit {0}
 IsFew (Steal ns) = length ns ≤ most_tests
 IsFew Shutdown = Unit {0}
+
+-- ids of Unicode's scalar values, which a payload of 16,777,216 bytes can hold
+abbrev pub AreIdsForPayload : List (List ℕ) → Type 0
+AreIdsForPayload ids = (list_all all_scalars ids ≡ true) × (length (canonical (collection_tree ids)) ≤ 16777216)
+
+-- A log that starts has the number of a channel; at most as many tests are given back as a suite has; and the ids of a
+-- collection fit a payload. The other events always do.
+abbrev pub FitsPayload : What → Type 0
+FitsPayload (Collected ids) = AreIdsForPayload ids
+FitsPayload (LogStart n log) = (0 < log) × (log < 2147483648)
+FitsPayload (Back ns) = length ns ≤ most_tests
+FitsPayload _ = Unit {0}
 
 -- the call of the function that runs the tests of a suite file by a mode: no source text, no file name, the function's
 -- name and its keyword arguments, as execnet's gateway.py writes the call of a function

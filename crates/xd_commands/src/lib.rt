@@ -20,7 +20,7 @@ pub use call::have_text_keys;
 pub use events::{event_value, value_event};
 pub use function::{CallFault, Called, Function, FunctionName, read_call};
 pub use kwargs::{text_at, value_at};
-pub use laws::{call_payload_law, event_law, order_law, order_payload_law};
+pub use laws::{call_payload_law, event_law, event_payload_law, order_law, order_payload_law};
 pub use order::Order;
 pub use orders::{order_value, value_order};
 pub use status::status_value;

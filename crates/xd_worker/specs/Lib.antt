@@ -1,4 +1,5 @@
 pub mod History
+pub mod Inputs
 pub mod Logs
 pub mod Stands
 pub mod Table

@@ -36,7 +36,7 @@ use Rattle.xd_worker.specs.Talk.{sent_how, payload_on}
 use Rattle.xd_worker.specs.Worker.{Service, Worker, WorkerTurn, worker_turn_of}
 use Rattle.xd_worker.specs.Turns.{Told, LinkEnded, at_talk, given_in, fed, fed_to, called, is_called, is_service, echoed, echoed_how, echo_ended, worker_stopped, did, did_unless, took, worker_turned}
 use Rattle.xd_worker_serve.specs.inner.Running.{call_of_service, rests}
-use Rattle.xd_worker_serve.specs.Inputs.{is_terminate_kind}
+use Rattle.xd_worker.specs.Inputs.{is_terminate_kind}
 use Rattle.xd_worker_serve.proofs.Calls.{head_front, head_more, lined}
 use Rattle.xd_worker_serve.proofs.Facts.{running_some}
 use Rattle.xd_worker_serve.proofs.Steps.{all_same, acted_turn, answer_last, kind_last, is_terminate}

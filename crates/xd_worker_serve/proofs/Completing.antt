@@ -18,7 +18,7 @@ use Rattle.xd_link.specs.Source.{Gave, Supply}
 use Rattle.xd_worker.specs.History.{HeardInput}
 use Rattle.xd_worker_serve.specs.declared.stop.Stop.{Stop}
 use Rattle.xd_worker_serve.specs.declared.stop.Stop.TheVariants as stop
-use Rattle.xd_worker_serve.specs.Inputs.{has_terminate, messages_in}
+use Rattle.xd_worker.specs.Inputs.{has_terminate, messages_in}
 use Rattle.xd_link.specs.Spring.{Spring}
 use Rattle.xd_worker_serve.specs.Ends.{Ends, RunsPrograms, Scene, Served, voice_of}
 use Rattle.xd_worker_serve.specs.inner.Halts.{is_sink_whole, worker_status_of}

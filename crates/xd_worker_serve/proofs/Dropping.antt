@@ -6,7 +6,7 @@ use Rattle.xd_reader.specs.declared.news.LinkNews.{LinkNews}
 use Rattle.xd_reader.specs.declared.news.LinkNews.TheVariants as news
 use Rattle.xd_reader.specs.declared.news.LinkStop.{LinkStop}
 use Rattle.xd_reader.specs.declared.news.LinkStop.TheVariants as link
-use Rattle.xd_worker_serve.specs.Inputs.{messages_in}
+use Rattle.xd_worker.specs.Inputs.{messages_in}
 use Rattle.xd_worker_serve.specs.declared.server.Halt.{Halt}
 use Rattle.xd_worker_serve.specs.declared.server.Halt.TheVariants as halt
 use Rattle.xd_worker_serve.specs.declared.stop.Stop.{Stop}

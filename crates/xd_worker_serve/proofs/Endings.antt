@@ -21,7 +21,7 @@ use Rattle.xd_reader.specs.Reads.{PutsAll, StopsAt}
 use Rattle.xd_worker_runner.specs.Orders.{ArePieces, EndsCut, EndsWell, IsCommand, IsPiece, Mails, Order, Runs as Ran1, RunsOrders, ProgramsSeen as Programs1, ToldOfProgram, news_of_programs, ran_of, told_news}
 use Rattle.xd_worker_runner.specs.Programs.{AreRun, Ran, faults_of}
 use Rattle.xd_worker.specs.History.{is_worker_over, worker_after}
-use Rattle.xd_worker_serve.specs.Inputs.{has_link_end, has_terminate, messages_in}
+use Rattle.xd_worker.specs.Inputs.{has_link_end, has_terminate, messages_in}
 use Rattle.xd_worker_serve.specs.Programs.{output_in, ran_in}
 use Rattle.xd_worker_serve.specs.Took.{TookAll, TookToLast}
 use Rattle.xd_worker_serve.specs.declared.stop.Stop.{Stop}

@@ -11,7 +11,7 @@ use Rattle.xd_worker.specs.declared.input.WorkerInput.TheVariants.{Message, Suit
 use Rattle.xd_worker.specs.Worker.{Worker, WorkerTurn, worker_turn_of}
 use Rattle.xd_worker.specs.Turns.{Came, Told as Says, SuiteRead, NoSuite, Printed, ChildEnded, LinkEnded, worker_turned}
 use Rattle.xd_worker.specs.History.{HeardInput, Is, MessageSays, IsSuite, turn_by}
-use Rattle.xd_worker_serve.specs.Inputs.{IsDue, has_terminate, is_terminate_kind, is_link_end, is_link_input, message_in}
+use Rattle.xd_worker.specs.Inputs.{IsDue, has_terminate, is_terminate_kind, is_link_end, is_link_input, message_in}
 use Rattle.xd_worker_serve.specs.Suites.{FilesGave}
 use Rattle.xd_worker_serve.specs.Programs.{commands_of}
 use Rattle.xd_worker_serve.specs.declared.server.Door.{Door}

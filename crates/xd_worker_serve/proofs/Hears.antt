@@ -22,7 +22,7 @@ use Rattle.xd_worker.specs.Turns.{Came, Told as Says, SuiteRead, NoSuite, Printe
 use Rattle.xd_worker.specs.History.{HeardInput, MessageSays, turn_by, worker_after}
 use Rattle.xd_worker.specs.Stands.{Answers, StandsForInputs}
 use Rattle.xd_worker_serve.specs.inner.Running.{call_of_service, rests}
-use Rattle.xd_worker_serve.specs.Inputs.{IsDue, has_link_end, has_terminate, is_terminate_kind, is_link_end, is_link_input, message_in, messages_in}
+use Rattle.xd_worker.specs.Inputs.{IsDue, has_link_end, has_terminate, is_terminate_kind, is_link_end, is_link_input, message_in, messages_in}
 use Rattle.xd_worker_serve.specs.Programs.{commands_in, commands_of}
 use Rattle.xd_worker_serve.specs.Took.{TookToLast}
 use Rattle.xd_worker_serve.specs.Suites.{FilesGave, AnswersAsking, asked_path}

@@ -19,7 +19,7 @@ use Rattle.xd_worker.specs.Worker.{Worker, running_in}
 use Rattle.xd_worker.specs.History.{HeardInput, is_worker_over, worker_after}
 use Rattle.xd_worker.specs.Stands.{FaultHasReason, StandsForInputs}
 use Rattle.xd_worker_serve.specs.inner.Running.{call_of_service}
-use Rattle.xd_worker_serve.specs.Inputs.{has_terminate, messages_in}
+use Rattle.xd_worker.specs.Inputs.{has_terminate, messages_in}
 use Rattle.xd_worker_serve.specs.Programs.{AreLeft, last_commands}
 use Rattle.xd_worker_serve.proofs.Facts.{listens, none_is, none_runs}
 use Rattle.xd_worker_serve.proofs.Steps.{running_is}

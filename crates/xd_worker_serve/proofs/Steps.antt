@@ -35,7 +35,7 @@ use Rattle.xd_worker.specs.Talk.{sent_how, payload_on}
 use Rattle.xd_worker.specs.Worker.{Service, Worker, WorkerTurn, worker_turn_of, running_in}
 use Rattle.xd_worker.specs.Turns.{Told, SuiteRead, NoSuite, Printed, ChildEnded, LinkEnded, at_talk, asked, all_asked, ended_call, given_in, fed, fed_to, called, is_called, is_service, echoed, echoed_how, echo_ended, worker_stopped, did, did_unless, took, suite_read, suite_refused, suite_input, ids_to_collect, worker_turned}
 use Rattle.xd_worker_serve.specs.inner.Running.{call_of_service, rests}
-use Rattle.xd_worker_serve.specs.Inputs.{is_terminate_kind}
+use Rattle.xd_worker.specs.Inputs.{is_terminate_kind}
 use Rattle.xd_worker_serve.proofs.Calls.{Fresh, idle, answered_idle, answered_end, answered_output}
 
 -- ---- what is asked of the side leaves the work as it is

@@ -12,7 +12,7 @@ use Rattle.xd_worker.specs.History.{HeardInput}
 use Rattle.xd_worker_serve.specs.declared.stop.Stop.{Stop}
 use Rattle.xd_worker_serve.specs.declared.stop.Stop.TheVariants as stop
 use Rattle.xd_worker_serve.specs.Ends.{RunsPrograms, Scene, Served, voice_of}
-use Rattle.xd_worker_serve.specs.Inputs.{has_link_end, has_terminate, messages_in}
+use Rattle.xd_worker.specs.Inputs.{has_link_end, has_terminate, messages_in}
 use Rattle.xd_worker_serve.specs.Spoke.{Spoke, voice}
 use Rattle.xd_worker_serve.specs.Took.{TookToRefused}
 

@@ -12,7 +12,7 @@ use Rattle.xd_reader.specs.declared.news.LinkStop.{LinkStop}
 use Rattle.xd_reader.specs.declared.news.LinkStop.TheVariants as link
 use Rattle.xd_worker.specs.declared.input.WorkerInput.{WorkerInput}
 use Rattle.xd_worker.specs.History.{HeardInput, is_worker_over, worker_after}
-use Rattle.xd_worker_serve.specs.Inputs.{has_link_end, messages_in}
+use Rattle.xd_worker.specs.Inputs.{has_link_end, messages_in}
 use Rattle.xd_worker_runner.specs.Programs.{AreRun, Ran, faults_of}
 use Rattle.xd_worker_serve.specs.Programs.{AreLeft, commands_in, output_in, ran_in}
 use Rattle.xd_worker_serve.specs.Took.{TookAll, TookToLast, TookToRefused}

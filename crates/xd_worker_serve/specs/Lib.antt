@@ -1,4 +1,3 @@
-pub mod Inputs
 pub mod Suites
 pub mod Programs
 pub mod Speaking

@@ -7,7 +7,7 @@ use Rattle.xd_frame.specs.Message.{frames}
 use Rattle.xd_frame.specs.Writing.{CountAfter}
 use Rattle.xd_worker.specs.declared.input.WorkerInput.{WorkerInput}
 use Rattle.xd_worker.specs.History.{HeardInput, all_said, turn_by, worker_after}
-use Rattle.xd_worker_serve.specs.Inputs.{AreHeardInputs, EndsOnce}
+use Rattle.xd_worker.specs.Inputs.{AreHeardInputs, EndsOnce}
 use Rattle.xd_worker_serve.specs.Suites.{AreAnswered}
 use Rattle.xd_worker_serve.specs.Speaking.{greeting, written}
 

@@ -4,7 +4,7 @@ use Rattle.xd_factory.specs.declared.faults.SideFault.{SideFault}
 use Rattle.xd_frame.specs.Message.{MessageView}
 use Rattle.xd_worker.specs.declared.input.WorkerInput.TheVariants.{Message}
 use Rattle.xd_worker.specs.History.{HeardInput, RefusesFor, worker_after}
-use Rattle.xd_worker_serve.specs.Inputs.{has_terminate, is_terminate_kind}
+use Rattle.xd_worker.specs.Inputs.{has_terminate, is_terminate_kind}
 
 -- Of these messages all were taken, and GATEWAY_TERMINATE is not among them.
 pub record TookAll (all taken : List MessageView) : Type 0 where

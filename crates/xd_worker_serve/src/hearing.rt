@@ -2,7 +2,7 @@
 ghost use Rattle.std.specs.Prelude.{◌≡◌, ◌≤◌, ℕ, ◌+◌, false, Some, None, length, IfOk, IfErr, IfSome, OnOk, IsSome};
 ghost use Rattle.xd_edge.specs.Limits.{most_piece_bytes};
 ghost use Rattle.xd_worker_serve.specs.inner.Halts.{CeasesBy, Goes, door_after, over_by};
-ghost use Rattle.xd_worker_serve.specs.Inputs.{is_terminate_kind};
+ghost use Rattle.xd_worker.specs.Inputs.{is_terminate_kind};
 ghost use Rattle.xd_worker_serve.specs.inner.Seen.{seen};
 ghost use Rattle.xd_worker_serve.specs.inner.Serves.{Beside, RunsTest, ServesSoFar, Setting, beside, nothing, owed_of_link, of_program, to_start};
 ghost use Rattle.xd_edge.specs.Clock.{Ticking, Ticks, ticking};

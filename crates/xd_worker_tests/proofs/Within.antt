@@ -23,7 +23,7 @@ use Rattle.xd_worker_tests.specs.Turns.{CallTurn, call_turn_of, answered, over, 
 use Rattle.xd_worker_tests.specs.History.{Given, call_after, turn_after, size_opened, size_after, CallKnowsTests}
 use Rattle.xd_worker_tests.proofs.Once.{and_first, and_last, and_both}
 
-abbrev within : ℕ → List LineEntry → Bool
+abbrev pub within : ℕ → List LineEntry → Bool
 within size [] = true
 within size (Test n ∷ ps) = nat_lt n size && within size ps
 within size (Mark ∷ ps) = within size ps
@@ -32,7 +32,7 @@ abbrev is_below : ℕ → Option ℕ → Bool
 is_below size None = true
 is_below size (Some n) = nat_lt n size
 
-both_in : (size : ℕ) (a b : List LineEntry) → within size a ≡ true → within size b ≡ true → within size (a ++ b) ≡ true
+pub both_in : (size : ℕ) (a b : List LineEntry) → within size a ≡ true → within size b ≡ true → within size (a ++ b) ≡ true
 both_in size [] b e f = f
 both_in size (Test n ∷ a) b e f = and_both (nat_lt n size) (within size (a ++ b)) (and_first (nat_lt n size) (within size a) e) (both_in size a b (and_last (nat_lt n size) (within size a) e) f)
 both_in size (Mark ∷ a) b e f = both_in size a b e f
@@ -50,29 +50,29 @@ last_in size (Mark ∷ a) b e = last_in size a b e
 halves : (l : List LineEntry) (n : ℕ) → take n l ++ drop n l ≡ l
 halves l n = grind (arith, common_steps)
 
-rest_in : (size : ℕ) (l : List LineEntry) (n : ℕ) → within size l ≡ true → within size (drop n l) ≡ true
+pub rest_in : (size : ℕ) (l : List LineEntry) (n : ℕ) → within size l ≡ true → within size (drop n l) ≡ true
 rest_in size l n e = last_in size (take n l) (drop n l) (ap (within size) (halves l n) ∙ e)
 
-start_in : (size : ℕ) (l : List LineEntry) (n : ℕ) → within size l ≡ true → within size (take n l) ≡ true
+pub start_in : (size : ℕ) (l : List LineEntry) (n : ℕ) → within size l ≡ true → within size (take n l) ≡ true
 start_in size l n e = first_in size (take n l) (drop n l) (ap (within size) (halves l n) ∙ e)
 
 kept_if : (t : Bool) (size n : ℕ) (ps : List LineEntry) → nat_lt n size ≡ true → within size ps ≡ true → within size (if t then ps else Test n ∷ ps) ≡ true
 kept_if true size n ps e f = f
 kept_if false size n ps e f = and_both (nat_lt n size) (within size ps) e f
 
-kept_in : (size : ℕ) (ns : List ℕ) (q : List LineEntry) → within size q ≡ true → within size (kept ns q) ≡ true
+pub kept_in : (size : ℕ) (ns : List ℕ) (q : List LineEntry) → within size q ≡ true → within size (kept ns q) ≡ true
 kept_in size ns [] e = refl
 kept_in size ns (Test n ∷ q) e = kept_if (is_among n ns) size n (kept ns q) (and_first (nat_lt n size) (within size q) e) (kept_in size ns q (and_last (nat_lt n size) (within size q) e))
 kept_in size ns (Mark ∷ q) e = kept_in size ns q e
 
-given_in : (size : ℕ) (l : List LineEntry) (ns : List ℕ) → can_give size l ns ≡ true → within size (map Test ns) ≡ true
+pub given_in : (size : ℕ) (l : List LineEntry) (ns : List ℕ) → can_give size l ns ≡ true → within size (map Test ns) ≡ true
 given_in size l [] e = refl
 given_in size l (n ∷ ns) e =
     let free = nat_lt n size && not (has_test n l) in
     let rest = can_give size (l ++ Test n ∷ []) ns in
     and_both (nat_lt n size) (within size (map Test ns)) (and_first (nat_lt n size) (not (has_test n l)) (and_first free rest e)) (given_in size (l ++ Test n ∷ []) ns (and_last free rest e))
 
-head_in : (size : ℕ) (l : List LineEntry) (n : ℕ) → head_test l ≡ Some n → within size l ≡ true → nat_lt n size ≡ true
+pub head_in : (size : ℕ) (l : List LineEntry) (n : ℕ) → head_test l ≡ Some n → within size l ≡ true → nat_lt n size ≡ true
 head_in size [] n e h = cc
 head_in size (Test m ∷ l) n e h = let same : m ≡ n = (let z = e in cc) in subst (λ (x : ℕ). nat_lt x size ≡ true) same (and_first (nat_lt m size) (within size l) h)
 head_in size (Mark ∷ l) n e h = cc

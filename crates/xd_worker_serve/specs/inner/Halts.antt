@@ -13,7 +13,7 @@ use Rattle.xd_worker.specs.declared.input.WorkerInput.TheVariants.{Message}
 use Rattle.xd_worker.specs.History.{HeardInput, RefusesFor, is_worker_over, worker_after}
 use Rattle.xd_worker.specs.declared.input.WorkerFault.{WorkerFault}
 use Rattle.xd_worker.specs.declared.input.WorkerFault.TheVariants as fault
-use Rattle.xd_worker_serve.specs.Inputs.{has_link_end, has_terminate, messages_in}
+use Rattle.xd_worker.specs.Inputs.{has_link_end, has_terminate, messages_in}
 use Rattle.xd_worker_serve.specs.Took.{TookToLast}
 use Rattle.xd_worker_serve.specs.Suites.{asked_path}
 use Rattle.xd_worker_serve.specs.Programs.{AreLeft, commands_in}

@@ -15,7 +15,7 @@ use Rattle.xd_worker.specs.Worker.{Worker, running_in}
 use Rattle.xd_worker.specs.History.{HeardInput, worker_after}
 use Rattle.xd_worker.specs.Stands.{StandsForInputs}
 use Rattle.xd_worker_serve.specs.inner.Running.{call_of_service, rests}
-use Rattle.xd_worker_serve.specs.Inputs.{has_link_end, has_terminate, messages_in}
+use Rattle.xd_worker.specs.Inputs.{has_link_end, has_terminate, messages_in}
 use Rattle.xd_worker_serve.specs.Programs.{commands_in, last_commands}
 use Rattle.xd_worker_serve.specs.Took.{TookToLast}
 use Rattle.xd_worker_serve.specs.Suites.{asked_path}

@@ -1,6 +1,6 @@
 use Rattle.std.proofs.Common.{refl, ap, subst, sym}
 use Rattle.xd_worker_serve.specs.inner.Seen.{seen}
-use Rattle.xd_worker_serve.specs.Inputs.{is_terminate_kind}
+use Rattle.xd_worker.specs.Inputs.{is_terminate_kind}
 use Rattle.xd_worker_serve.specs.declared.server.Door.{Door}
 use Rattle.xd_worker_serve.specs.declared.speaker.Speaker.{Speaker}
 use Rattle.xd_worker_serve.specs.inner.Serves.{ServesSoFar, to_start}
