@@ -178,7 +178,7 @@ module _ (settings : Settings) (proper : IsProper settings []) (s : System) (v :
   abbrev more : List News
   more = s.taken ++ n ∷ []
 
-  orders-grow : (w : ℕ)
+  pub orders-grow : (w : ℕ)
       → IsFirstPart (told_to w (run_of settings s.taken).entries) (told_to w (run_of settings (s.taken ++ n ∷ [])).entries)
   orders-grow w = (
     told_to w (added r (input_of r n)),
@@ -187,18 +187,18 @@ module _ (settings : Settings) (proper : IsProper settings []) (s : System) (v :
         ∙ filter_map-append (order_told w) r.entries (added r (input_of r n)),
   )
 
-  still-begun : (w : ℕ) → WasBegun settings s.taken w → WasBegun settings (s.taken ++ n ∷ []) w
+  pub still-begun : (w : ℕ) → WasBegun settings s.taken w → WasBegun settings (s.taken ++ n ∷ []) w
   still-begun w h = ap (λ (q : SoFar). has_member w (λ m. true) q.state.books) (run-more settings s.taken n)
       ∙ member-then settings r n (sound-run settings s.taken proper) w h
 
-  said-own-more : (w : ℕ) → (v == w) ≡ true → said_by w (s.taken ++ n ∷ []) ≡ said_by w s.taken ++ x ∷ []
+  pub said-own-more : (w : ℕ) → (v == w) ≡ true → said_by w (s.taken ++ n ∷ []) ≡ said_by w s.taken ++ x ∷ []
   said-own-more w h = said-join w s.taken (n ∷ []) ∙ ap (λ (l : List What). said_by w s.taken ++ l) (said-own w n h)
 
-  said-other-more : (w : ℕ) → (v == w) ≡ false → said_by w (s.taken ++ n ∷ []) ≡ said_by w s.taken
+  pub said-other-more : (w : ℕ) → (v == w) ≡ false → said_by w (s.taken ++ n ∷ []) ≡ said_by w s.taken
   said-other-more w h = said-join w s.taken (n ∷ [])
       ∙ ap (λ (l : List What). said_by w s.taken ++ l) (said-other w n h) ∙ append-nil (said_by w s.taken)
 
-  begun-more : (w : ℕ) → ((v == w) ≡ true → WasBegun settings s.taken w) → AfterStart settings s.taken w
+  pub begun-more : (w : ℕ) → ((v == w) ≡ true → WasBegun settings s.taken w) → AfterStart settings s.taken w
       → AfterStart settings (s.taken ++ n ∷ []) w
   begun-more w now before pre m post e own = elim (last-split s.taken n pre post m e) [
     | inl a ↦ subst (λ (l : List News). has_member w (λ m. true) (run_of settings l).state.books ≡ true) (sym a.0) (now (sym (ap (λ (y : News). y.worker == w) a.1) ∙ own))

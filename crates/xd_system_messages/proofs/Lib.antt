@@ -1,0 +1,15 @@
+pub mod Asks
+pub mod Bridge
+pub mod Called
+pub mod Comes
+pub mod Counts
+pub mod Ears
+pub mod Linked
+pub mod Payloads
+pub mod Prefixes
+pub mod Reached
+pub mod Sayable
+pub mod Served
+pub mod Slots
+pub mod SystemLaw
+pub mod Tables

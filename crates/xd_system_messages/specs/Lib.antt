@@ -1,0 +1,4 @@
+pub mod Bridge
+pub mod Given
+pub mod Steps
+pub mod SystemLaw
