@@ -33,7 +33,7 @@ use Rattle.xd_system.proofs.Runs.{added, entries-added}
 use Rattle.xd_system.proofs.Shipped.{begun-more, said-other-more, said-own-more, still-begun}
 use Rattle.xd_system_messages.specs.Bridge.{AreSayable, CanBeCalled, IsHeardAsCalled}
 use Rattle.xd_system_messages.specs.Given.{AreGiven}
-use Rattle.xd_system_messages.specs.Steps.{AreNewsSoFar, Comes, IsCut, IsGone, IsTaken, MessageStep, MessageSystem, New, ReachedAreMoments, ReachesByMessages, Then, Unstarted, WorkerEnd, cut_end, entries_to, given_to, heard_last, link_of, new_system, was_called, with_end, with_input, with_news, written_to}
+use Rattle.xd_system_messages.specs.Steps.{AreNewsSoFar, Comes, IsCut, IsGone, IsTaken, MessageStep, MessageSystem, New, ReachedAreMoments, ReachesByMessages, Then, Unstarted, WorkerEnd, cut_end, entries_to, given_to_call, heard_last, link_seen, new_system, was_called, system_with_end, end_with_input, system_with_taken, written_to}
 use Rattle.xd_system_messages.proofs.Bridge.{says_what_it_tells, waits}
 use Rattle.xd_system_messages.proofs.Sayable.{run_sayable}
 use Rattle.xd_system_messages.proofs.Prefixes.{news_begin}
@@ -148,10 +148,10 @@ module _ (suite : List ℕ) (settings : Settings) (proper : IsProper settings []
   system = record { taken = s.taken; links = λ w. uncalled_link }
 
   -- the steps of one worker's end
-  at_own : (v w : ℕ) (e : WorkerEnd) → (v == w) ≡ true → StandsAt suite settings s.taken w e → StandsAt suite settings s.taken w ((with_end s v e).ends w)
+  at_own : (v w : ℕ) (e : WorkerEnd) → (v == w) ≡ true → StandsAt suite settings s.taken w e → StandsAt suite settings s.taken w ((system_with_end s v e).ends w)
   at_own v w e h k = subst (StandsAt suite settings s.taken w) (sym (ap (λ (b : Bool). if b then e else s.ends w) h)) k
 
-  at_other : (v w : ℕ) (e : WorkerEnd) → (v == w) ≡ false → StandsAt suite settings s.taken w (s.ends w) → StandsAt suite settings s.taken w ((with_end s v e).ends w)
+  at_other : (v w : ℕ) (e : WorkerEnd) → (v == w) ≡ false → StandsAt suite settings s.taken w (s.ends w) → StandsAt suite settings s.taken w ((system_with_end s v e).ends w)
   at_other v w e h k = subst (StandsAt suite settings s.taken w) (sym (ap (λ (b : Bool). if b then e else s.ends w) h)) k
 
   same_worker : (P : ℕ → Type 0) (v w : ℕ) → (v == w) ≡ true → P v → P w
@@ -185,8 +185,8 @@ module _ (suite : List ℕ) (settings : Settings) (proper : IsProper settings []
 
   stands_then : (all : (w : ℕ) → StandsAt suite settings s.taken w (s.ends w)) (t : MessageSystem) → MessageStep suite settings s t → (w : ℕ) → StandsAt suite settings t.taken w (t.ends w)
   stands_then all t (Comes v i g m) w = elim (cases_of (v == w)) [
-    | inr h ↦ at_other v w (with_input (s.ends v) i g) h (all w)
-    | inl h ↦ at_own v w (with_input (s.ends v) i g) h (same_worker (λ u. StandsAt suite settings s.taken u (with_input (s.ends v) i g)) v w h (record {
+    | inr h ↦ at_other v w (end_with_input (s.ends v) i g) h (all w)
+    | inl h ↦ at_own v w (end_with_input (s.ends v) i g) h (same_worker (λ u. StandsAt suite settings s.taken u (end_with_input (s.ends v) i g)) v w h (record {
       heard = (m.heard, (all v).heard);
       given = (m.given, (all v).given);
       no_end = or_neither (is_link_end i) (has_link_end (s.ends v).came) m.no_end (all v).no_end;
@@ -249,7 +249,7 @@ stands suite settings s proper (Then p t before step) w = stands_then suite sett
 
 -- ---- as a moment
 
-moment : (suite : List ℕ) (settings : Settings) (taken : List News) (w : ℕ) (e : WorkerEnd) → CanBeCalled suite settings.mode → AreSayable (told_to w (run_of settings taken).entries) → StandsAt suite settings taken w e → IsHonestAt settings taken w (link_of e)
+moment : (suite : List ℕ) (settings : Settings) (taken : List News) (w : ℕ) (e : WorkerEnd) → CanBeCalled suite settings.mode → AreSayable (told_to w (run_of settings taken).entries) → StandsAt suite settings taken w e → IsHonestAt settings taken w (link_seen e)
 moment suite settings taken w e c sayable k = by_messages (messages_in e.came) refl
   where
     entries : List Entry
@@ -276,14 +276,14 @@ moment suite settings taken w e c sayable k = by_messages (messages_in e.came) r
       news = took_told e.whole (said_by w taken) (all_said e.history) (tells t.given) (λ n a. news_begin a.first (all_said e.history) n (tells t.given) a.begins a.are b.says) k.news;
     }
 
-    by_messages : (ms : List MessageView) → messages_in e.came ≡ ms → IsHonestAt settings taken w (link_of e)
+    by_messages : (ms : List MessageView) → messages_in e.came ≡ ms → IsHonestAt settings taken w (link_seen e)
     by_messages [] q =
         let quiet = waits e.came e.history k.heard k.no_end q in
-        subst (λ (h : List HeardInput). IsHonestAt settings taken w (record { called = was_called (worker_after h).duties.service; given = given_to (worker_after h).duties.service; whole = e.whole })) (sym quiet) (uncalled quiet)
+        subst (λ (h : List HeardInput). IsHonestAt settings taken w (record { called = was_called (worker_after h).duties.service; given = given_to_call (worker_after h).duties.service; whole = e.whole })) (sym quiet) (uncalled quiet)
     by_messages (m ∷ ms) q =
         let some : messages_in e.came ≡ [] → ⊥ = λ z. (let y : [] ≡ m ∷ ms = sym z ∙ q in cc) in
         let b = says_what_it_tells suite settings.mode (entries_to w (run_of settings taken).entries) e.came e.history c (subst AreSayable (sym os_are) sayable) k.heard k.given k.no_end k.written some in
-        subst (λ (o : Option Service). IsHonestAt settings taken w (record { called = was_called o; given = given_to o; whole = e.whole })) (sym b.1) (called b.0 b.2)
+        subst (λ (o : Option Service). IsHonestAt settings taken w (record { called = was_called o; given = given_to_call o; whole = e.whole })) (sym b.1) (called b.0 b.2)
 
 pub reached : ReachedAreMoments
 reached suite settings s proper c r w = moment suite settings s.taken w (s.ends w) c (run_sayable settings s.taken w proper) (stands suite settings s proper r w)

@@ -8,16 +8,16 @@ use Rattle.xd_system.proofs.Accused.{never_accused}
 use Rattle.xd_system.proofs.Items.{runs_once}
 use Rattle.xd_system.proofs.Moving.{something_moves}
 use Rattle.xd_system.proofs.Placed.{each_placed}
-use Rattle.xd_system_messages.specs.Steps.{MessageSystem, link_of}
+use Rattle.xd_system_messages.specs.Steps.{MessageSystem, link_seen}
 use Rattle.xd_system_messages.specs.SystemLaw.{HoldsIn, HoldsInEachState}
 use Rattle.xd_system_messages.proofs.Reached.{reached}
 
-holds_of : (settings : Settings) (s : MessageSystem) → IsProper settings [] → ((w : ℕ) → IsHonestAt settings s.taken w (link_of (s.ends w))) → HoldsIn settings s
+holds_of : (settings : Settings) (s : MessageSystem) → IsProper settings [] → ((w : ℕ) → IsHonestAt settings s.taken w (link_seen (s.ends w))) → HoldsIn settings s
 holds_of settings s proper honest = record {
-  never_accused = λ w. never_accused settings s.taken w (link_of (s.ends w)) proper (honest w);
-  in_its_place = λ w. each_placed settings s.taken w (link_of (s.ends w)) proper (honest w);
-  moves = λ w. something_moves settings s.taken w (link_of (s.ends w)) proper (honest w);
-  once = runs_once settings s.taken (λ w. link_of (s.ends w)) proper (λ w begun. honest w);
+  never_accused = λ w. never_accused settings s.taken w (link_seen (s.ends w)) proper (honest w);
+  in_its_place = λ w. each_placed settings s.taken w (link_seen (s.ends w)) proper (honest w);
+  moves = λ w. something_moves settings s.taken w (link_seen (s.ends w)) proper (honest w);
+  once = runs_once settings s.taken (λ w. link_seen (s.ends w)) proper (λ w begun. honest w);
 }
 
 pub holds : HoldsInEachState

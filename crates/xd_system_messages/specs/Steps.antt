@@ -47,16 +47,16 @@ abbrev pub new_system : MessageSystem
 new_system = record { taken = []; ends = λ w. new_end }
 
 -- the system with another end of one worker
-abbrev pub with_end : MessageSystem → ℕ → WorkerEnd → MessageSystem
-with_end s w e = record { taken = s.taken; ends = λ v. if w == v then e else s.ends v }
+abbrev pub system_with_end : MessageSystem → ℕ → WorkerEnd → MessageSystem
+system_with_end s w e = record { taken = s.taken; ends = λ v. if w == v then e else s.ends v }
 
 -- the system after its controller took one more piece of news
-abbrev pub with_news : MessageSystem → ℕ → What → MessageSystem
-with_news s w x = record { taken = s.taken ++ record { worker = w; what = x } ∷ []; ends = s.ends }
+abbrev pub system_with_taken : MessageSystem → ℕ → What → MessageSystem
+system_with_taken s w x = record { taken = s.taken ++ record { worker = w; what = x } ∷ []; ends = s.ends }
 
 -- the worker after one more input
-abbrev pub with_input : WorkerEnd → WorkerInput → HeardInput → WorkerEnd
-with_input e i g = record { came = i ∷ e.came; history = g ∷ e.history; whole = e.whole }
+abbrev pub end_with_input : WorkerEnd → WorkerInput → HeardInput → WorkerEnd
+end_with_input e i g = record { came = i ∷ e.came; history = g ∷ e.history; whole = e.whole }
 
 -- the worker after its link was cut
 abbrev pub cut_end : WorkerEnd → WorkerEnd
@@ -95,14 +95,14 @@ pub record AreNewsSoFar (said : List MessageView) (news : List What) : Type 0 wh
 -- started where nothing came to it.
 pub data MessageStep (suite : List ℕ) (settings : Settings) (s : MessageSystem) : MessageSystem → Type 0 where
   Comes : (w : ℕ) (i : WorkerInput) (g : HeardInput) → MayComeNext suite settings s w i g
-      → MessageStep suite settings s (with_end s w (with_input (s.ends w) i g))
+      → MessageStep suite settings s (system_with_end s w (end_with_input (s.ends w) i g))
   IsTaken : (w : ℕ) (x : What) → WasBegun settings s.taken w → heard_last s w ≡ false
-      → AreNewsSoFar (all_said (s.ends w).history) (said_by w s.taken ++ x ∷ []) → MessageStep suite settings s (with_news s w x)
-  IsCut : (w : ℕ) → MessageStep suite settings s (with_end s w (cut_end (s.ends w)))
+      → AreNewsSoFar (all_said (s.ends w).history) (said_by w s.taken ++ x ∷ []) → MessageStep suite settings s (system_with_taken s w x)
+  IsCut : (w : ℕ) → MessageStep suite settings s (system_with_end s w (cut_end (s.ends w)))
   IsGone : (w : ℕ) (cause : Cause) → WasBegun settings s.taken w → (s.ends w).whole ≡ false → heard_last s w ≡ false
-      → is_breach (Gone cause) ≡ false → MessageStep suite settings s (with_news s w (Gone cause))
+      → is_breach (Gone cause) ≡ false → MessageStep suite settings s (system_with_taken s w (Gone cause))
   Unstarted : (w : ℕ) → WasBegun settings s.taken w → (s.ends w).whole ≡ false → (s.ends w).came ≡ [] → heard_last s w ≡ false
-      → MessageStep suite settings s (with_news s w NotStarted)
+      → MessageStep suite settings s (system_with_taken s w NotStarted)
 
 -- the states that steps reach from a new system
 pub data ReachesByMessages (suite : List ℕ) (settings : Settings) : MessageSystem → Type 0 where
@@ -110,9 +110,9 @@ pub data ReachesByMessages (suite : List ℕ) (settings : Settings) : MessageSys
   Then : (s t : MessageSystem) → ReachesByMessages suite settings s → MessageStep suite settings s t → ReachesByMessages suite settings t
 
 -- what came to the call, none before it
-abbrev pub given_to : Option Service → List Given
-given_to None = []
-given_to (Some s) = s.given
+abbrev pub given_to_call : Option Service → List Given
+given_to_call None = []
+given_to_call (Some s) = s.given
 
 -- `run_tests` was called
 abbrev pub was_called : Option Service → Bool
@@ -120,10 +120,10 @@ was_called None = false
 was_called (Some s) = true
 
 -- the worker's end of a link as the laws of a system see it: its call, and what came to that
-abbrev pub link_of : WorkerEnd → LinkNow
-link_of e = record {
+abbrev pub link_seen : WorkerEnd → LinkNow
+link_seen e = record {
   called = was_called (worker_after e.history).duties.service;
-  given = given_to (worker_after e.history).duties.service;
+  given = given_to_call (worker_after e.history).duties.service;
   whole = e.whole;
 }
 
@@ -131,4 +131,4 @@ link_of e = record {
 abbrev pub ReachedAreMoments : Type 0
 ReachedAreMoments =
     (suite : List ℕ) (settings : Settings) (s : MessageSystem) → IsProper settings [] → CanBeCalled suite settings.mode
-    → ReachesByMessages suite settings s → (w : ℕ) → IsHonestAt settings s.taken w (link_of (s.ends w))
+    → ReachesByMessages suite settings s → (w : ℕ) → IsHonestAt settings s.taken w (link_seen (s.ends w))
