@@ -1,15 +1,13 @@
 -- What a call of `run_tests` asks for in a run: events that have a payload, errors that a message can hold, and nothing
 -- after its end.
-use Rattle.std.proofs.Common.{◌≡◌, ◌⊎◌, ℕ, ◌+◌, ◌<◌, ◌≤◌, List, [], ◌∷◌, ◌++◌, length, take, drop, Bool, true, false, ◌&&◌, not, Option, Some, None, refl, ap, sym, subst, ◌∙◌, append_assoc, arith, inl, inr}
+use Rattle.std.proofs.Common.{◌≡◌, ◌⊎◌, ℕ, ◌<◌, ◌≤◌, List, [], ◌∷◌, ◌++◌, length, take, drop, Bool, true, false, ◌&&◌, Option, Some, None, refl, ap, sym, subst, ◌∙◌, append_assoc, arith, inl, inr}
 use Rattle.std.specs.Prelude.{◌-◌, map, nat_lt, codes, if◌then◌else◌}
 use Rattle.std.specs.List.{list_all, range_with_len}
-use Rattle.std.specs.Str.{all_scalars}
 use Rattle.std.proofs.lemmas.Bool.{and_parts, leb-true, ltb-true}
 use Rattle.std.proofs.lemmas.Grind.{common_steps}
 use Rattle.std.proofs.lemmas.List.{length-take}
 use Rattle.xd_edge.specs.Limits.{most_tests}
 use Rattle.xd_value.specs.Tree.{Tree}
-use Rattle.xd_factory.specs.Table.{is_long}
 use Rattle.xd_journal.specs.Kept.{most_of_one}
 use Rattle.xd_journal.specs.declared.entry.Outcome.{Outcome}
 use Rattle.xd_journal.specs.declared.news.What.{What}
@@ -29,11 +27,10 @@ use Rattle.xd_worker_tests.specs.declared.ask.Ask.{Ask}
 use Rattle.xd_worker_tests.specs.declared.ask.Ask.TheVariants.{Tell, Piece, CloseLog, End}
 use Rattle.xd_worker_tests.specs.declared.input.Input.{Input}
 use Rattle.xd_worker_tests.specs.declared.input.Input.TheVariants as input
-use Rattle.xd_worker_tests.specs.Line.{FunctionCall, left, front, queue, passed, running_test, head_test, number_of_log, can_give, can_ask, all_queued, kept, stolen_tests, tests_in_line, is_among}
-use Rattle.xd_worker_tests.specs.Turns.{CallTurn, call_turn_of, answered, answered_in, over, ended_early, ending_text, asking, finished, test_started, has_log, too_many_channels, moved_on, line_settled, given, stolen, stolen_if, told, item_heard_in, item_heard, all_heard, collected_in, serving_suite, suite_refused_in, piece_asks, put_out, output_fed, told_done, done_of}
+use Rattle.xd_worker_tests.specs.Line.{FunctionCall, left, front, queue, passed, running_test, head_test, number_of_log, can_give, can_ask, all_queued, kept, stolen_tests}
+use Rattle.xd_worker_tests.specs.Turns.{CallTurn, call_turn_of, answered, answered_in, over, ended_early, ending_text, asking, finished, test_started, has_log, too_many_channels, moved_on, line_settled, given, stolen, stolen_if, told, item_heard_in, item_heard, all_heard, collected_in, suite_refused_in, piece_asks, put_out, output_fed, told_done, done_of}
 use Rattle.xd_worker_tests.specs.History.{Given, call_after, turn_after}
 use Rattle.xd_worker_tests.specs.inner.Stands.{once}
-use Rattle.xd_worker_tests.proofs.Logs.{does_run}
 use Rattle.xd_worker_tests.proofs.Once.{and_both, once_given, once_kept, once_mark}
 use Rattle.xd_worker_tests.proofs.Within.{within, both_in, given_in, head_in, kept_in, rest_in, start_in}
 use Rattle.xd_system_messages.specs.Given.{IsErrorText}

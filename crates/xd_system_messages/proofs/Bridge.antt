@@ -1,12 +1,11 @@
 -- A worker says what its call tells: by induction over all that came to it.
-use Rattle.std.proofs.Common.{◌≡◌, ◌⊎◌, ℕ, List, [], ◌∷◌, ◌++◌, Bool, true, false, ◌||◌, Option, Some, None, Result, Ok, Err, refl, ap, sym, subst, ◌∙◌, append_assoc, append-nil, inl, inr}
+use Rattle.std.proofs.Common.{◌≡◌, ◌⊎◌, ℕ, List, [], ◌∷◌, ◌++◌, Bool, true, false, ◌||◌, Option, Some, None, Result, refl, ap, sym, subst, ◌∙◌, append_assoc, append-nil, inl, inr}
 use Rattle.std.specs.Prelude.{map, option_and_then}
 use Rattle.std.specs.List.{cons_option, filter_map}
 use Rattle.xd_edge.specs.declared.mode.ModeKind.{ModeKind}
-use Rattle.xd_value.specs.Canonical.{canonical, dumped}
+use Rattle.xd_value.specs.Canonical.{dumped}
 use Rattle.xd_value.specs.declared.writing.DumpFault.{DumpFault}
-use Rattle.xd_factory.specs.Said.{Said, Data, Exec, Means}
-use Rattle.xd_factory.specs.SideTable.{Counts}
+use Rattle.xd_factory.specs.Said.{Data, Exec}
 use Rattle.xd_frame.specs.Message.{MessageView}
 use Rattle.xd_journal.specs.declared.entry.Entry.{Entry}
 use Rattle.xd_report_phrases.specs.Names.{mode_text}
@@ -14,13 +13,11 @@ use Rattle.xd_commands.specs.Limits.{IsFew, run_tests_call}
 use Rattle.xd_commands.specs.Orders.{IsOrder, order_of, order_tree}
 use Rattle.xd_commands.specs.declared.order.Order.{Order}
 use Rattle.xd_commands.proofs.Fitting.{order_dumped}
-use Rattle.xd_gateway.specs.Calls.{exec_message}
 use Rattle.xd_gateway.specs.News.{IsNewsOf}
-use Rattle.xd_group_peer.specs.ToLink.{call_message, order_message, payload_message, to_link}
-use Rattle.xd_worker_tests.specs.History.{started_tests}
+use Rattle.xd_group_peer.specs.ToLink.{call_message, order_message, payload_message}
 use Rattle.xd_worker.specs.declared.input.WorkerInput.{WorkerInput}
 use Rattle.xd_worker.specs.declared.input.WorkerInput.TheVariants.{Message, SuiteBytes, SuiteTooLarge, SuiteUnread, Output, ChildDone, LinkEnd}
-use Rattle.xd_worker.specs.History.{HeardInput, Is, MessageSays, table_after, worker_after}
+use Rattle.xd_worker.specs.History.{HeardInput, MessageSays, worker_after}
 use Rattle.xd_worker.specs.Inputs.{AreHeardInputs, IsDue, IsHeard, has_link_end, is_link_end, message_in, messages_in}
 use Rattle.xd_worker.specs.Turns.{Came, Told, SuiteRead, NoSuite, Printed, ChildEnded, LinkEnded}
 use Rattle.xd_worker.specs.Worker.{Service, new_worker}
@@ -133,9 +130,9 @@ module _ (suite : List ℕ) (mode : ModeKind) (os : List Order) (c : CanBeCalled
     where
       rest : map say a.later ≡ m ∷ p.0
       rest = same_rest (call_message suite mode ∷ map say a.taken) (map say a.later) (m ∷ p.0) (
-        ap (λ (l : List MessageView). call_message suite mode ∷ l) (sym (map_more a.taken a.later) ∙ ap (map say) (sym a.split)) ∙ p.1
-        ∙ append_assoc (messages_in is) (m ∷ []) p.0 ∙ ap (λ (l : List MessageView). l ++ m ∷ p.0) a.come
-      )
+          ap (λ (l : List MessageView). call_message suite mode ∷ l) (sym (map_more a.taken a.later) ∙ ap (map say) (sym a.split)) ∙ p.1
+          ∙ append_assoc (messages_in is) (m ∷ []) p.0 ∙ ap (λ (l : List MessageView). l ++ m ∷ p.0) a.come
+          )
 
       says : (o : Order) (came : Came) → g.came ≡ came → IsOrder o → IsFew o → MessageSays (say o) came → came ≡ Told (Data 1 (order_tree o))
       says o (Told said) e h1 h2 q = ap Told (order_says o said h1 h2 q)
@@ -215,9 +212,13 @@ says_what_it_tells suite mode orders inputs h c sayable heard ok goes p some = b
 
     by_stand : Stand suite mode os inputs h → (s : Service) × ((worker_after h).duties.service ≡ Some s) × IsHeardAsCalled os h s.given
     by_stand (inl none) = absurd (some none.0)
-    by_stand (inr a) = (a.served.service, a.served.is, record {
-      comes = a.served.comes;
-      ordered = (a.served.took.begins.0 ++ a.later, a.split ∙ (ap (λ (l : List Order). l ++ a.later) a.served.took.begins.1 ∙ append_assoc (orders_of a.served.service.given) a.served.took.begins.0 a.later));
-      says = subst (λ (m : List MessageView). IsNewsOf m (tells a.served.service.given)) (append-nil _) (mean _ _ _ _ _ _ a.served.linked.linked.ears);
-      starts = a.served.started;
-    })
+    by_stand (inr a) = (
+      a.served.service,
+      a.served.is,
+      record {
+        comes = a.served.comes;
+        ordered = (a.served.took.begins.0 ++ a.later, a.split ∙ (ap (λ (l : List Order). l ++ a.later) a.served.took.begins.1 ∙ append_assoc (orders_of a.served.service.given) a.served.took.begins.0 a.later));
+        says = subst (λ (m : List MessageView). IsNewsOf m (tells a.served.service.given)) (append-nil _) (mean _ _ _ _ _ _ a.served.linked.linked.ears);
+        starts = a.served.started;
+      },
+    )

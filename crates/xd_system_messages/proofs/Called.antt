@@ -1,6 +1,6 @@
 -- The first message of a link: `run_tests` is called.
-use Rattle.std.proofs.Common.{◌≡◌, ℕ, ◌≤◌, List, [], ◌∷◌, ◌++◌, length, Bool, true, false, Option, Some, None, Ok, refl, ap, sym, subst, ◌∙◌, arith}
-use Rattle.std.specs.Prelude.{◌==◌, codes, option_to_list, if◌then◌else◌}
+use Rattle.std.proofs.Common.{◌≡◌, ℕ, ◌≤◌, List, [], ◌∷◌, ◌++◌, length, Bool, true, false, Ok, refl, ap, sym, subst, ◌∙◌, arith}
+use Rattle.std.specs.Prelude.{◌==◌, option_to_list, if◌then◌else◌}
 use Rattle.std.specs.Str.{all_scalars, encode_utf8_all}
 use Rattle.std.proofs.lemmas.Bool.{eqb-true}
 use Rattle.xd_edge.specs.declared.mode.ModeKind.{ModeKind}
@@ -11,11 +11,11 @@ use Rattle.xd_value.specs.Payload.{IsPayload}
 use Rattle.xd_value.specs.Tree.{Tree}
 use Rattle.xd_value.specs.Writable.{Writable}
 use Rattle.xd_value.proofs.Dumped.{dumped_once}
-use Rattle.xd_factory.specs.declared.parity.Parity.TheVariants.{Odd, Even}
+use Rattle.xd_factory.specs.declared.parity.Parity.TheVariants.{Even}
 use Rattle.xd_factory.specs.Numbers.{is_in, is_mine}
 use Rattle.xd_factory.specs.Said.{Said, Exec, Means}
-use Rattle.xd_factory.specs.SideTable.{ChannelTable, heard_of_message, new_table}
-use Rattle.xd_factory.specs.Slot.{Slot, Unseen, Here, hooked_slot}
+use Rattle.xd_factory.specs.SideTable.{heard_of_message}
+use Rattle.xd_factory.specs.Slot.{Unseen, Here, hooked_slot}
 use Rattle.xd_factory.specs.Table.{heard_slot, named_in}
 use Rattle.xd_journal.specs.declared.news.What.TheVariants as what
 use Rattle.xd_commands.specs.Functions.{called_in}
@@ -24,7 +24,7 @@ use Rattle.xd_commands.specs.declared.function.Called.{Called}
 use Rattle.xd_commands.specs.declared.function.Called.TheVariants.{Runs}
 use Rattle.xd_commands.specs.declared.function.Function.TheVariants as function
 use Rattle.xd_commands.proofs.Fitting.{call_dumped}
-use Rattle.xd_gateway.specs.Calls.{exec_message, exec_opened}
+use Rattle.xd_gateway.specs.Calls.{exec_message}
 use Rattle.xd_gateway.specs.News.{first_ear}
 use Rattle.xd_report_phrases.specs.Names.{mode_text}
 use Rattle.xd_worker.specs.History.{HeardInput, turn_by, worker_after}
@@ -35,8 +35,8 @@ use Rattle.xd_system_messages.specs.Bridge.{CanBeCalled}
 use Rattle.xd_system_messages.proofs.Asks.{new_lined}
 use Rattle.xd_system_messages.proofs.Ears.{Ears}
 use Rattle.xd_system_messages.proofs.Linked.{Linked, LinkedThen, plain, rest_of}
-use Rattle.xd_system_messages.proofs.Served.{Served, Took}
-use Rattle.xd_system_messages.proofs.Tables.{Channels, begins, open_end, put_at}
+use Rattle.xd_system_messages.proofs.Served.{Served}
+use Rattle.xd_system_messages.proofs.Tables.{begins, open_end, put_at}
 
 -- ---- the call as it is read
 

@@ -46,15 +46,14 @@ use Rattle.xd_worker.specs.declared.input.WorkerInput.TheVariants.{Message, Suit
 use Rattle.xd_worker.specs.History.{HeardInput, IsSuite, all_said, table_after, turn_by, worker_after}
 use Rattle.xd_worker.specs.Inputs.{IsHeard, is_link_end, message_in}
 use Rattle.xd_worker.specs.Talk.{Talk}
-use Rattle.xd_worker.specs.Turns.{Came, Told, SuiteRead, NoSuite, Printed, ChildEnded, LinkEnded, at_talk, did, did_unless, echoed, fed, ids_to_collect, is_ok, is_service, is_written, suite_input, worker_turned}
+use Rattle.xd_worker.specs.Turns.{Came, Told, SuiteRead, NoSuite, Printed, ChildEnded, LinkEnded, at_talk, did, did_unless, echoed, fed, ids_to_collect, is_ok, is_service, suite_input, worker_turned}
 use Rattle.xd_worker.specs.Worker.{Service, Worker, WorkerTurn, worker_turn_of}
-use Rattle.xd_system.specs.Moment.{IsFirstPart}
 use Rattle.xd_system.specs.Tells.{are_suite_ids, comes_in_run, order_in, orders_of, tells}
 use Rattle.xd_system.proofs.Suites.{suite-ids}
 use Rattle.xd_system_messages.specs.Given.{IsErrorText, IsGiven, is_text_if_any, is_text_test}
 use Rattle.xd_system_messages.proofs.Asks.{IsGivenInput, is_over}
 use Rattle.xd_system_messages.proofs.Linked.{LinkedThen, rest_of}
-use Rattle.xd_system_messages.proofs.Served.{Before, Served, Took, served}
+use Rattle.xd_system_messages.proofs.Served.{Before, Served, served}
 use Rattle.xd_system_messages.proofs.Slots.{gone_dropped, gone_keeps, item_handed, item_keeps}
 use Rattle.xd_system_messages.proofs.Tables.{Channels, stay}
 
@@ -120,32 +119,32 @@ module _ (taken_ : List Order) (h : List HeardInput) (k : Served taken_ h) (g : 
       by_phase false e =
           let here = k.linked.linked.worker.one e in
           let fed_now : turn_by w g ≡ fed (input.Command (Some o)) g.channels t
-              = turn ∙ (ap (λ (a : Taken Tree). did a g.channels t) (item_handed w.table.parity 1 v w.table.slot here)
-              ∙ (ap (λ (b : Bool). if b then fed (input.Command (tree_order v)) g.channels t else echoed 1 v t) called_here
-              ∙ ap (λ (x : Option Order). fed (input.Command x) g.channels t) (order_read o ordered))) in
+          = turn ∙ (ap (λ (a : Taken Tree). did a g.channels t) (item_handed w.table.parity 1 v w.table.slot here)
+          ∙ (ap (λ (b : Bool). if b then fed (input.Command (tree_order v)) g.channels t else echoed 1 v t) called_here
+          ∙ ap (λ (x : Option Order). fed (input.Command x) g.channels t) (order_read o ordered))) in
           let before : Before taken_ h k t g.channels = record {
-                is = k.is;
-                goes = k.goes;
-                idle = refl;
-                silent = refl;
-                worker = stay false over (begun_tests (call_after k.service.given)) (call_after k.service.given).running w.table.slot t.talk.table.slot (λ c. item_keeps w.table.parity 1 v w.table.slot c (order_channels o) here) k.linked.linked.worker;
-                next_is = k.linked.linked.next_is;
-                count = count;
-              } in
+            is = k.is;
+            goes = k.goes;
+            idle = refl;
+            silent = refl;
+            worker = stay false over (begun_tests (call_after k.service.given)) (call_after k.service.given).running w.table.slot t.talk.table.slot (λ c. item_keeps w.table.parity 1 v w.table.slot c (order_channels o) here) k.linked.linked.worker;
+            next_is = k.linked.linked.next_is;
+            count = count;
+          } in
           served taken_ h k t (input.Command (Some o)) g.channels before tt g (taken_ ++ o ∷ []) fed_now refl (λ q. refl) (λ q. absurd (let z : true ≡ false = sym q ∙ e in cc))
       by_phase true e =
           let gone = k.linked.linked.worker.closed e in
           let still : turn_by w g ≡ t = turn ∙ ap (λ (a : Taken Tree). did a g.channels t) (gone_dropped w.table.parity 1 v w.table.slot gone) in
           let kept : LinkedThen over (begun_tests (call_after k.service.given)) (call_after k.service.given).running (all_said h) t.talk (tells k.service.given) = record {
-                finished = k.linked.finished;
-                goes_on = k.linked.goes_on;
-                shut = k.linked.shut;
-                linked = record {
-                  worker = stay false over (begun_tests (call_after k.service.given)) (call_after k.service.given).running w.table.slot t.talk.table.slot (λ c. gone_keeps w.table.parity 1 v w.table.slot c (order_channels o) gone) k.linked.linked.worker;
-                  next_is = k.linked.linked.next_is;
-                  ears = k.linked.linked.ears;
-                };
-              } in
+            finished = k.linked.finished;
+            goes_on = k.linked.goes_on;
+            shut = k.linked.shut;
+            linked = record {
+              worker = stay false over (begun_tests (call_after k.service.given)) (call_after k.service.given).running w.table.slot t.talk.table.slot (λ c. gone_keeps w.table.parity 1 v w.table.slot c (order_channels o) gone) k.linked.linked.worker;
+              next_is = k.linked.linked.next_is;
+              ears = k.linked.linked.ears;
+            };
+          } in
           let at = subst (λ (x : WorkerTurn). LinkedThen over (begun_tests (call_after k.service.given)) (call_after k.service.given).running (all_said h) x.talk (tells k.service.given)) (sym still) kept in
           record {
             service = k.service;
@@ -170,21 +169,21 @@ module _ (taken_ : List Order) (h : List HeardInput) (k : Served taken_ h) (g : 
   fed_by t i turn service stopped talk idle count ok comes none =
       let c = call_after k.service.given in
       let before : Before taken_ h k t g.channels = record {
-            is = service ∙ k.is;
-            goes = stopped ∙ k.goes;
-            idle = idle;
-            silent = ap (λ (d : Talk). d.says) talk;
-            worker = subst (λ (d : Talk). Channels false over (begun_tests c) c.running d.table.slot) (sym talk) k.linked.linked.worker;
-            next_is = ap (λ (d : Talk). d.table.next) talk ∙ k.linked.linked.next_is;
-            count = subst (λ (d : Talk). Counts d.table.slot g.channels) (sym talk) count;
-          } in
+        is = service ∙ k.is;
+        goes = stopped ∙ k.goes;
+        idle = idle;
+        silent = ap (λ (d : Talk). d.says) talk;
+        worker = subst (λ (d : Talk). Channels false over (begun_tests c) c.running d.table.slot) (sym talk) k.linked.linked.worker;
+        next_is = ap (λ (d : Talk). d.table.next) talk ∙ k.linked.linked.next_is;
+        count = subst (λ (d : Talk). Counts d.table.slot g.channels) (sym talk) count;
+      } in
       served taken_ h k t i g.channels before ok g taken_ turn comes (λ q. sym (ap (λ (l : List Order). taken_ ++ l) none ∙ append-nil taken_)) (λ q. (refl, none))
 
   no_suite : (text : List ℕ) → g.came ≡ NoSuite text → w.duties.owed ≡ true → IsErrorText text → Counts (table_after g.came w.table).slot g.channels → Served taken_ (g ∷ h)
   no_suite text is owed ok counts =
       let t = record (worker_turn_of w) { duties = record (w.duties) { owed = false } } in
       let turn : turn_by w g ≡ fed (input.SuiteRefused text) g.channels t
-          = ap (λ (c : Came). worker_turned c g.channels (worker_turn_of w)) is ∙ ap (λ (b : Bool). if b then fed (input.SuiteRefused text) g.channels t else worker_turn_of w) owed in
+      = ap (λ (c : Came). worker_turned c g.channels (worker_turn_of w)) is ∙ ap (λ (b : Bool). if b then fed (input.SuiteRefused text) g.channels t else worker_turn_of w) owed in
       fed_by t (input.SuiteRefused text) turn refl refl refl refl (subst (λ (c : Came). Counts (table_after c w.table).slot g.channels) is counts) ok refl refl
 
 -- ---- the suite
@@ -250,9 +249,9 @@ module _ (taken_ : List Order) (h : List HeardInput) (k : Served taken_ h) (g : 
       let good = given_suite ids (suite-ids b ts k.service.mode suite) (texts_in k.service.mode ts texts) in
       let t = record (worker_turn_of worker) { duties = record (worker.duties) { owed = false; tests = ts } } in
       let turn : turn_by worker g ≡ fed (suite_input ids) g.channels t
-          = ap (λ (c : Came). worker_turned c g.channels (worker_turn_of worker)) is
-          ∙ (ap (λ (b : Bool). if b then fed (suite_input (ids_to_collect worker.duties.service ts)) g.channels t else worker_turn_of worker) owed
-          ∙ ap (λ (o : Option Service). fed (suite_input (ids_to_collect o ts)) g.channels t) k.is) in
+      = ap (λ (c : Came). worker_turned c g.channels (worker_turn_of worker)) is
+      ∙ (ap (λ (b : Bool). if b then fed (suite_input (ids_to_collect worker.duties.service ts)) g.channels t else worker_turn_of worker) owed
+      ∙ ap (λ (o : Option Service). fed (suite_input (ids_to_collect o ts)) g.channels t) k.is) in
       fed_by taken_ h k g t (suite_input ids) turn refl refl refl refl (subst (λ (c : Came). Counts (table_after c worker.table).slot g.channels) is counts) good.ok good.comes good.none
 
   suite_came : (b : List ℕ) (c : Came) → g.came ≡ c → IsSuite b c → IsGiven c → worker.duties.owed ≡ true → Counts (table_after g.came worker.table).slot g.channels → Served taken_ (g ∷ h)

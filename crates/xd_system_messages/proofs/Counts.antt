@@ -1,5 +1,5 @@
 -- How many tests a steal gives back.
-use Rattle.std.proofs.Common.{◌≡◌, ℕ, ◌<◌, ◌≤◌, List, [], ◌∷◌, ◌++◌, length, Bool, true, false, ◌&&◌, ◌||◌, not, refl, ap, sym, ◌∙◌, arith}
+use Rattle.std.proofs.Common.{◌≡◌, ℕ, ◌<◌, ◌≤◌, List, [], ◌∷◌, ◌++◌, length, Bool, true, false, ◌&&◌, ◌||◌, not, refl, ap, ◌∙◌, arith}
 use Rattle.std.specs.Prelude.{nat_lt, ◌==◌, if◌then◌else◌}
 use Rattle.std.specs.List.{list_all}
 use Rattle.std.proofs.lemmas.Bool.{and_parts, ltb-true}
@@ -12,7 +12,6 @@ use Rattle.xd_worker_tests.specs.declared.line_entry.LineEntry.TheVariants.{Test
 use Rattle.xd_worker_tests.specs.Line.{has_test, is_among, stolen_tests, tests_in_line}
 use Rattle.xd_worker_tests.specs.inner.Stands.{once}
 use Rattle.xd_worker_tests.proofs.Within.{within}
-use Rattle.xd_worker_tests.proofs.Once.{and_both}
 use Rattle.xd_system.proofs.Lists.{length-low}
 
 flipped : (n m : ℕ) → (n == m) ≡ (m == n)

@@ -14,16 +14,16 @@ use Rattle.xd_factory.specs.declared.taken.Taken.TheVariants as taken
 use Rattle.xd_factory.specs.Numbers.{is_mine}
 use Rattle.xd_factory.specs.Said.{Said as Word, Data, Close, Means, names_of}
 use Rattle.xd_factory.specs.SideTable.{ChannelTable, answer, changed_at, heard_of_message}
-use Rattle.xd_factory.specs.Slot.{Slot, Here, Gone, hooked_slot, is_new}
-use Rattle.xd_factory.specs.Table.{answer_of, heard_slot, opened_count}
+use Rattle.xd_factory.specs.Slot.{Gone, hooked_slot, is_new}
+use Rattle.xd_factory.specs.Table.{heard_slot}
 use Rattle.xd_journal.specs.declared.news.What.{What}
 use Rattle.xd_journal.specs.declared.news.What.TheVariants as what
 use Rattle.xd_commands.specs.Events.{tree_event}
 use Rattle.xd_gateway.specs.Calls.{item_message}
-use Rattle.xd_gateway.specs.News.{AreHeard, Ear, Heard, IsNewsOf, Said, all_messages, all_news, close_of, ear_after, event_or_stray, is_finish, log_hooked, news_by, piece_or_stray}
+use Rattle.xd_gateway.specs.News.{AreHeard, Heard, IsNewsOf, Said, all_messages, all_news, close_of, ear_after, event_or_stray, is_finish, log_hooked, news_by, piece_or_stray}
 use Rattle.xd_worker_tests.specs.Line.{number_of_log}
 use Rattle.xd_system_messages.proofs.Slots.{close_at, close_handed, item_handed, item_keeps, log_is_hooked, opened_few, start_opens}
-use Rattle.xd_system_messages.proofs.Tables.{Channels, closes, counts, ends, few, last_log, last_not_one, numbers_of, open_end, opens, put_at, stay}
+use Rattle.xd_system_messages.proofs.Tables.{Channels, closes, counts, ends, few, last_log, last_not_one, numbers_of, opens, stay}
 
 -- The controller heard these messages as these news: n logs opened, the last may be open, and the function of the call
 -- may be over, or have said that it has finished.
@@ -146,8 +146,8 @@ module _ (over finished : Bool) (n : ℕ) (o : Bool) (says : List MessageView) (
   hears_finish m goes shut done means =
       let here = e.channels_are.one goes in
       let next = hears m (Close 1 None) None true n false means (omega arith)
-          (ap (news_by finished) (close_handed table.parity 1 None table.slot here) ∙ ap (λ (q : Bool). close_of q end.Closed) done)
-          (ends true n table.slot _ (λ c. close_at table.parity 1 None table.slot c here) (subst (λ (q : Bool). Channels true q n false table.slot) goes (subst (λ (q : Bool). Channels true over n q table.slot) shut e.channels_are))) in
+      (ap (news_by finished) (close_handed table.parity 1 None table.slot here) ∙ ap (λ (q : Bool). close_of q end.Closed) done)
+      (ends true n table.slot _ (λ c. close_at table.parity 1 None table.slot c here) (subst (λ (q : Bool). Channels true q n false table.slot) goes (subst (λ (q : Bool). Channels true over n q table.slot) shut e.channels_are))) in
       subst (λ (q : Bool). Ears true q n false (says ++ m ∷ []) news) (either finished done) (subst (λ (l : List What). Ears true (finished || false) n false (says ++ m ∷ []) l) (no_more news) next)
     where
       either : (q : Bool) → q ≡ true → (q || false) ≡ true
@@ -163,8 +163,8 @@ module _ (over finished : Bool) (n : ℕ) (o : Bool) (says : List MessageView) (
   hears_error m text goes shut not_done means =
       let here = e.channels_are.one goes in
       let next = hears m (Close 1 (Some text)) (Some (what.Closed (Some text))) true n false means (omega arith)
-          (ap (news_by finished) (close_handed table.parity 1 (Some text) table.slot here) ∙ ap (λ (q : Bool). close_of q (end.Error text)) not_done)
-          (ends true n table.slot _ (λ c. close_at table.parity 1 (Some text) table.slot c here) (subst (λ (q : Bool). Channels true q n false table.slot) goes (subst (λ (q : Bool). Channels true over n q table.slot) shut e.channels_are))) in
+      (ap (news_by finished) (close_handed table.parity 1 (Some text) table.slot here) ∙ ap (λ (q : Bool). close_of q (end.Error text)) not_done)
+      (ends true n table.slot _ (λ c. close_at table.parity 1 (Some text) table.slot c here) (subst (λ (q : Bool). Channels true q n false table.slot) goes (subst (λ (q : Bool). Channels true over n q table.slot) shut e.channels_are))) in
       subst (λ (q : Bool). Ears true q n false (says ++ m ∷ []) (news ++ what.Closed (Some text) ∷ [])) (neither finished not_done) next
     where
       neither : (q : Bool) → q ≡ false → (q || false) ≡ false

@@ -1,12 +1,11 @@
 -- A worker and its controller, from ask to ask: what the worker says is heard as what it was asked to tell.
-use Rattle.std.proofs.Common.{◌≡◌, ◌⊎◌, ℕ, ◌+◌, ◌<◌, ◌≤◌, List, [], ◌∷◌, ◌++◌, length, Bool, true, false, ◌&&◌, Option, Some, None, Result, Ok, Err, refl, ap, sym, subst, ◌∙◌, append_assoc, append-nil, arith, inl, inr}
-use Rattle.std.specs.Prelude.{◌==◌, map, pos, ◌||◌, option_to_list, if◌then◌else◌}
-use Rattle.std.specs.List.{list_all, flat_map}
+use Rattle.std.proofs.Common.{◌≡◌, ℕ, ◌+◌, List, [], ◌∷◌, ◌++◌, Bool, true, false, Option, Some, None, Result, Ok, refl, ap, sym, subst, ◌∙◌, append_assoc, append-nil, arith, inl, inr}
+use Rattle.std.specs.Prelude.{map, pos, ◌||◌, option_to_list, if◌then◌else◌}
+use Rattle.std.specs.List.{list_all}
 use Rattle.std.proofs.lemmas.Bool.{and_parts}
 use Rattle.std.proofs.lemmas.Option.{same_Some}
 use Rattle.xd_value.specs.Canonical.{canonical, dumped}
 use Rattle.xd_value.specs.Channels.{channels, all_channels}
-use Rattle.xd_value.specs.Payload.{IsPayload}
 use Rattle.xd_value.specs.Tree.{Tree, bytes, int, text}
 use Rattle.xd_value.specs.View.{trees_of}
 use Rattle.xd_value.specs.declared.writing.DumpFault.{DumpFault}
@@ -15,8 +14,6 @@ use Rattle.xd_factory.specs.Said.{Close, Means}
 use Rattle.xd_factory.specs.SideTable.{ChannelTable}
 use Rattle.xd_factory.specs.Slot.{Slot, Here, Gone, is_seen}
 use Rattle.xd_factory.specs.Table.{closing_message, close_says, is_long, send_refusal, sent_gives}
-use Rattle.xd_factory.specs.declared.faults.SendFault.{SendFault}
-use Rattle.xd_journal.specs.declared.entry.Outcome.{Outcome}
 use Rattle.xd_journal.specs.declared.news.What.{What}
 use Rattle.xd_journal.specs.declared.news.What.TheVariants as what
 use Rattle.xd_commands.specs.Events.{IsEvent, event_tree}
@@ -141,8 +138,8 @@ pieces : (n : ℕ) (b : List ℕ) (before : List MessageView) (d : Talk) (news :
 pieces n b before d news few l =
     let heard = hears_piece false false n true (before ++ d.says) news l.ears b refl (piece_payload b few) in
     let said : sent (last_log n) (bytes b) d ≡ record d { says = d.says ++ item_message (last_log n) (canonical (bytes b)) ∷ [] }
-        = ap (λ (s : Slot Tree). saying (item_says (last_log n) (sent_gives (send_refusal s) (dumped (bytes b)))) d) (l.worker.log refl)
-        ∙ ap (λ (r : Result (List ℕ) DumpFault). saying (item_says (last_log n) (sent_gives None r)) d) (piece_dumped b few) in
+    = ap (λ (s : Slot Tree). saying (item_says (last_log n) (sent_gives (send_refusal s) (dumped (bytes b)))) d) (l.worker.log refl)
+    ∙ ap (λ (r : Result (List ℕ) DumpFault). saying (item_says (last_log n) (sent_gives None r)) d) (piece_dumped b few) in
     subst (λ (x : Talk). Linked false false n true before x (news ++ what.Piece (last_log n) b ∷ [])) (sym said)
     (record { worker = l.worker; next_is = l.next_is; ears = behind false false n true before d.says (item_message (last_log n) (canonical (bytes b))) (news ++ what.Piece (last_log n) b ∷ []) heard })
 
@@ -152,7 +149,7 @@ shuts n before d news l =
     let means : Means m (Close (last_log n) None) = record { numbered = last_numbered n (l.worker.begun refl); says = refl } in
     let heard = hears_close false false n true (before ++ d.says) news l.ears m refl refl means in
     let said : log_closed (last_log n) d ≡ record { table = (log_closed (last_log n) d).table; says = d.says ++ m ∷ [] }
-        = ap (λ (s : Slot Tree). record { table = (log_closed (last_log n) d).table; says = d.says ++ option_to_list (close_says (last_log n) None s) }) (l.worker.log refl) in
+    = ap (λ (s : Slot Tree). record { table = (log_closed (last_log n) d).table; says = d.says ++ option_to_list (close_says (last_log n) None s) }) (l.worker.log refl) in
     subst (λ (x : Talk). Linked false false n false before x (news ++ what.LogClosed (last_log n) ∷ [])) (sym said)
     (record {
       worker = closes false n d.table.slot _ (λ c. ended_at (last_log n) false d.table.slot c (l.worker.log refl)) l.worker;
@@ -304,6 +301,6 @@ all_linked true room asks l k before t news e s steps x =
         let first = all_quiet room e.quiet l p.mid before t news e.are_quiet q.0 p.first x in
         let last = closing_asks room e.closing p.mid k before (all_asked 1 e.quiet t) (news ++ news_of_asks e.quiet) e.closes q.1 p.second first in
         let all_news : (news ++ news_of_asks e.quiet) ++ news_of_asks e.closing ≡ news ++ news_of_asks (e.quiet ++ e.closing)
-            = append_assoc news (news_of_asks e.quiet) (news_of_asks e.closing) ∙ ap (λ (n : List What). news ++ n) (sym (news_split e.quiet e.closing)) in
+        = append_assoc news (news_of_asks e.quiet) (news_of_asks e.closing) ∙ ap (λ (n : List What). news ++ n) (sym (news_split e.quiet e.closing)) in
         subst (λ (u : WorkerTurn). LinkedThen true k.count k.is_open before u.talk (news ++ news_of_asks (e.quiet ++ e.closing))) (sym (asked_more e.quiet e.closing t))
         (subst (λ (n : List What). LinkedThen true k.count k.is_open before (all_asked 1 e.closing (all_asked 1 e.quiet t)).talk n) all_news last)

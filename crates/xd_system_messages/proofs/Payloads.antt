@@ -1,13 +1,11 @@
 -- What is written of a piece of output, and of the text of an error.
-use Rattle.std.proofs.Common.{◌≡◌, ℕ, ◌+◌, ◌≤◌, nat_lt, Bool, true, false, List, [], ◌∷◌, ◌++◌, length, length-append, Some, Ok, refl, sym, arith}
+use Rattle.std.proofs.Common.{◌≡◌, ℕ, ◌+◌, ◌≤◌, List, [], ◌∷◌, length, length-append, Ok, refl, arith}
 use Rattle.std.specs.Int.{w32, to_be_bytes}
-use Rattle.std.specs.Str.{all_scalars, encode_utf8_all}
 use Rattle.std.proofs.lemmas.Bool.{le-ltb}
 use Rattle.xd_value.specs.Canonical.{canonical, dumped, form}
 use Rattle.xd_value.specs.Payload.{IsPayload}
-use Rattle.xd_value.specs.Tree.{Tree, bytes, text}
+use Rattle.xd_value.specs.Tree.{bytes, text}
 use Rattle.xd_value.proofs.Dumped.{dumped_payload}
-use Rattle.xd_factory.specs.Table.{is_long}
 use Rattle.xd_journal.specs.Kept.{most_of_one}
 use Rattle.xd_commands.proofs.Fitting.{dumped_is}
 use Rattle.xd_system_messages.specs.Given.{IsErrorText}

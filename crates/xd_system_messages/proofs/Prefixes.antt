@@ -1,5 +1,5 @@
 -- The news of a first part of some messages are a first part of their news.
-use Rattle.std.proofs.Common.{◌≡◌, ◌⊎◌, List, [], ◌∷◌, ◌++◌, Option, refl, ap, sym, subst, ◌∙◌, append_assoc, append-nil, inl, inr}
+use Rattle.std.proofs.Common.{◌≡◌, ◌⊎◌, List, [], ◌∷◌, ◌++◌, refl, ap, sym, subst, ◌∙◌, append_assoc, append-nil, inl, inr}
 use Rattle.std.specs.Prelude.{option_to_list}
 use Rattle.xd_frame.specs.Message.{MessageView}
 use Rattle.xd_journal.specs.declared.news.What.{What}

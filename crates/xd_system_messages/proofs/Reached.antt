@@ -1,5 +1,5 @@
 -- Each state that steps over messages reach is a moment of honest workers.
-use Rattle.std.proofs.Common.{◌≡◌, ◌⊎◌, ℕ, List, [], ◌∷◌, ◌++◌, Bool, true, false, ◌||◌, Option, Some, None, refl, ap, sym, subst, ◌∙◌, append_assoc, append-nil, inl, inr, arith}
+use Rattle.std.proofs.Common.{◌≡◌, ◌⊎◌, ℕ, List, [], ◌∷◌, ◌++◌, Bool, true, false, ◌||◌, Option, None, refl, ap, sym, subst, ◌∙◌, append_assoc, append-nil, inl, inr, arith}
 use Rattle.std.specs.Prelude.{◌==◌, filter, if◌then◌else◌}
 use Rattle.std.specs.List.{cons_option, filter_map, list_any}
 use Rattle.std.proofs.lemmas.Bool.Decides.{nat_tests}
@@ -14,7 +14,6 @@ use Rattle.xd_journal.specs.declared.news.What.TheVariants.{Gone, NotStarted}
 use Rattle.xd_journal.specs.declared.settings.Settings.{Settings}
 use Rattle.xd_journal.specs.Said.{is_breach}
 use Rattle.xd_commands.specs.Orders.{order_of}
-use Rattle.xd_commands.specs.declared.order.Order.{Order}
 use Rattle.xd_gateway.specs.News.{Heard, all_messages, all_news}
 use Rattle.xd_group_peer.specs.ToLink.{call_message, order_message, to_link}
 use Rattle.xd_run.specs.Proper.{IsProper}
@@ -26,14 +25,14 @@ use Rattle.xd_worker.specs.History.{HeardInput, all_said, worker_after}
 use Rattle.xd_worker.specs.Inputs.{AreHeardInputs, has_link_end, is_link_end, messages_in}
 use Rattle.xd_worker.specs.Worker.{Service}
 use Rattle.xd_system.specs.Moment.{AfterStart, IsFirstPart, IsHonestAt, TookOf, WasBegun}
-use Rattle.xd_system.specs.Own.{is_told_to, order_told, told_to}
+use Rattle.xd_system.specs.Own.{is_told_to, told_to}
 use Rattle.xd_system.specs.Steps.{System, is_link_over, uncalled_link}
 use Rattle.xd_system.specs.Tells.{orders_of, tells}
 use Rattle.xd_system.proofs.Runs.{added, entries-added}
-use Rattle.xd_system.proofs.Shipped.{begun-more, said-other-more, said-own-more, still-begun}
+use Rattle.xd_system.proofs.Shipped.{begun-more, said-other-more, said-own-more}
 use Rattle.xd_system_messages.specs.Bridge.{AreSayable, CanBeCalled, IsHeardAsCalled}
 use Rattle.xd_system_messages.specs.Given.{AreGiven}
-use Rattle.xd_system_messages.specs.Steps.{AreNewsSoFar, Comes, IsCut, IsGone, IsTaken, MessageStep, MessageSystem, New, ReachedAreMoments, ReachesByMessages, Then, Unstarted, WorkerEnd, cut_end, entries_to, given_to_call, heard_last, link_seen, new_system, was_called, system_with_end, end_with_input, system_with_taken, written_to}
+use Rattle.xd_system_messages.specs.Steps.{AreNewsSoFar, Comes, IsCut, IsGone, IsTaken, MessageStep, MessageSystem, New, ReachedAreMoments, ReachesByMessages, Then, Unstarted, WorkerEnd, cut_end, entries_to, given_to_call, link_seen, new_system, was_called, system_with_end, end_with_input, written_to}
 use Rattle.xd_system_messages.proofs.Bridge.{says_what_it_tells, waits}
 use Rattle.xd_system_messages.proofs.Sayable.{run_sayable}
 use Rattle.xd_system_messages.proofs.Prefixes.{news_begin}

@@ -1,8 +1,7 @@
 -- Each order of a run has a message: it names tests of a suite, each at most once.
-use Rattle.std.proofs.Common.{◌≡◌, ℕ, ◌<◌, ◌≤◌, List, [], ◌∷◌, ◌++◌, length, Bool, true, false, not, ◌&&◌, refl, ap, sym, subst, ◌∙◌, append-nil, arith, inl, inr}
+use Rattle.std.proofs.Common.{◌≡◌, ℕ, ◌≤◌, List, [], ◌∷◌, ◌++◌, length, Bool, true, false, not, ◌&&◌, refl, ap, sym, subst, ◌∙◌, arith, inl, inr}
 use Rattle.std.specs.Prelude.{◌==◌, nat_lt, filter, slice_index, Option, Some, None, if◌then◌else◌}
-use Rattle.std.specs.List.{cons_option, filter_map, list_all, range_with_len}
-use Rattle.std.specs.Str.{bytes_eq}
+use Rattle.std.specs.List.{cons_option, list_all, range_with_len}
 use Rattle.std.proofs.lemmas.Bool.{ltb-true}
 use Rattle.std.proofs.lemmas.Bool.Decides.{nat_tests}
 use Rattle.std.proofs.lemmas.List.Elements.{filter_map-append}
@@ -12,11 +11,9 @@ use Rattle.xd_journal.specs.declared.entry.Entry.{Entry}
 use Rattle.xd_journal.specs.declared.entry.Entry.TheVariants.{Ready, Collected, Done, Back, Finished, Refused, Down, NotStarted, Start, Run, RunAll, Steal, Shutdown, Kill, Over}
 use Rattle.xd_journal.specs.declared.settings.Settings.{Settings}
 use Rattle.xd_commands.specs.Kwargs.{AreIndices}
-use Rattle.xd_commands.specs.Limits.{IsFew}
-use Rattle.xd_commands.specs.Orders.{IsOrder}
 use Rattle.xd_commands.specs.declared.order.Order.{Order}
 use Rattle.xd_commands.specs.declared.order.Order.TheVariants as order
-use Rattle.xd_run.specs.Numbers.{all_distinct, among, without}
+use Rattle.xd_run.specs.Numbers.{all_distinct, among}
 use Rattle.xd_run.specs.Orderly.{is_in_order, is_orderly}
 use Rattle.xd_run.specs.Plan.{is_each, total}
 use Rattle.xd_run.specs.Proper.{IsProper, may_follow}
@@ -123,8 +120,7 @@ fair_sayable size line (order.Steal ns ∷ orders) answers small low once h =
     let is : ns ≡ part = (bytes_eq-Decides ns part).0 (split-and (is_in_order ns line) _ p.0).0 in
     let below : are_below size part ≡ true = below_filter size (λ y. among y ns) line low in
     let few = length_filter (λ y. among y ns) line in
-    let all = length-low size line once low in
-    (
+    let all = length-low size line once low in (
       subst (λ (l : List ℕ). AreIndices l × (length l ≤ most_tests)) (sym is) (below_indices size part small below, omega (arith, few, all, small)),
       fair_sayable size (line_after size line (order.Steal ns) answers) orders (answers_left (order.Steal ns) answers) small (below_filter size _ line low) (distinct_filter _ line once) p.1,
     )

@@ -1,11 +1,9 @@
 -- A worker that serves its call, and its controller, between two inputs.
-use Rattle.std.proofs.Common.{◌≡◌, ℕ, ◌+◌, ◌<◌, ◌≤◌, List, [], ◌∷◌, ◌++◌, length, Bool, true, false, ◌&&◌, Option, Some, None, refl, ap, sym, subst, ◌∙◌, append_assoc, append-nil, arith}
-use Rattle.std.specs.Prelude.{◌==◌, ◌-◌, nat_lt, option_to_list, if◌then◌else◌}
-use Rattle.std.specs.List.{list_all, flat_map}
+use Rattle.std.proofs.Common.{◌≡◌, ℕ, ◌≤◌, List, [], ◌∷◌, ◌++◌, length, Bool, true, false, Option, Some, None, refl, ap, sym, subst, ◌∙◌, append_assoc, append-nil, arith}
+use Rattle.std.specs.Prelude.{◌-◌, nat_lt, option_to_list}
+use Rattle.std.specs.List.{list_all}
 use Rattle.std.proofs.lemmas.Bool.{lt-ltb}
-use Rattle.xd_value.specs.Tree.{Tree}
-use Rattle.xd_factory.specs.SideTable.{ChannelTable, Counts}
-use Rattle.xd_factory.specs.Slot.{Slot}
+use Rattle.xd_factory.specs.SideTable.{Counts}
 use Rattle.xd_frame.specs.Message.{MessageView}
 use Rattle.xd_journal.specs.declared.news.What.{What}
 use Rattle.xd_journal.specs.declared.news.What.TheVariants as what
@@ -17,19 +15,19 @@ use Rattle.xd_worker_tests.specs.declared.input.Input.{Input}
 use Rattle.xd_worker_tests.specs.declared.phase.Phase.{Phase}
 use Rattle.xd_worker_tests.specs.declared.phase.Phase.TheVariants.{Stopped}
 use Rattle.xd_worker_tests.specs.History.{Given, all_asks, call_after, started_tests, turn_after}
-use Rattle.xd_worker_tests.specs.Line.{FunctionCall, number_of_log, running_test}
+use Rattle.xd_worker_tests.specs.Line.{number_of_log}
 use Rattle.xd_worker_tests.specs.Logs.{begun_tests, logs_of}
-use Rattle.xd_worker_tests.specs.Turns.{CallTurn, call_turn_of}
+use Rattle.xd_worker_tests.specs.Turns.{CallTurn}
 use Rattle.xd_worker_tests.proofs.Logs.{one_log}
 use Rattle.xd_worker_tests.proofs.Once.{and_both}
 use Rattle.xd_worker.specs.History.{HeardInput, all_said, turn_by, worker_after}
 use Rattle.xd_worker.specs.Talk.{Talk}
-use Rattle.xd_worker.specs.Turns.{acted, all_asked, asked, ended_call, fed, fed_to, given_in, others}
-use Rattle.xd_worker.specs.Worker.{Service, Worker, WorkerTurn, after_turn, running_in}
+use Rattle.xd_worker.specs.Turns.{all_asked, asked, ended_call, fed, fed_to, given_in, others}
+use Rattle.xd_worker.specs.Worker.{Service, WorkerTurn, running_in}
 use Rattle.xd_system.specs.Moment.{IsFirstPart}
 use Rattle.xd_system.specs.Tells.{comes_in_run, is_of_run, news_of_ask, news_of_asks, order_in, orders_of, tells}
 use Rattle.xd_system_messages.specs.Bridge.{started_by}
-use Rattle.xd_system_messages.proofs.Asks.{IsGivenInput, IsOfRun, Lined, Speaks, is_over, over_turn, turn_speaks}
+use Rattle.xd_system_messages.proofs.Asks.{IsGivenInput, IsOfRun, Lined, is_over, over_turn, turn_speaks}
 use Rattle.xd_system_messages.proofs.Ears.{Ears}
 use Rattle.xd_system_messages.proofs.Linked.{Linked, LinkedThen, all_linked, rest_of}
 use Rattle.xd_system_messages.proofs.Tables.{Channels, counts, few, numbers_of}
@@ -146,8 +144,8 @@ module _ (taken : List Order) (h : List HeardInput) (k : Served taken h) (t : Wo
       let spoken = turn_speaks gs g k.lined e ok in
       let finished_not : k.linked.finished ≡ false = k.linked.goes_on e in
       let start : Linked false false (begun_tests (call_after gs)) (call_after gs).running (all_said h) t.talk (tells gs)
-          = subst (λ (f : Bool). Linked false f (begun_tests (call_after gs)) (call_after gs).running (all_said h) t.talk (tells gs)) finished_not
-            (subst (λ (o : Bool). Linked o k.linked.finished (begun_tests (call_after gs)) (call_after gs).running (all_said h) t.talk (tells gs)) e linked_before.linked) in
+      = subst (λ (f : Bool). Linked false f (begun_tests (call_after gs)) (call_after gs).running (all_said h) t.talk (tells gs)) finished_not
+      (subst (λ (o : Bool). Linked o k.linked.finished (begun_tests (call_after gs)) (call_after gs).running (all_said h) t.talk (tells gs)) e linked_before.linked) in
       record {
         lined = spoken.lined;
         linked = all_linked (is_over (turn_after gs g).call.phase) g.room (turn_after gs g).asks (logs_of (call_after gs)) (logs_of (turn_after gs g).call) (all_said h) begun_turn (tells gs) spoken.ends spoken.each

@@ -1,19 +1,18 @@
 -- What a message does to an end on which a worker runs tests.
-use Rattle.std.proofs.Common.{◌≡◌, ℕ, suc, ◌+◌, ◌≤◌, List, [], ◌∷◌, ◌++◌, length, Bool, true, false, ◌&&◌, not, Option, Some, None, refl, ap, sym, subst, ◌∙◌, arith}
-use Rattle.std.specs.Prelude.{◌==◌, ◌||◌, ◌%◌, if◌then◌else◌}
-use Rattle.std.proofs.lemmas.Bool.{eq-eqb, eqb-true}
+use Rattle.std.proofs.Common.{◌≡◌, ℕ, suc, ◌≤◌, List, [], ◌∷◌, ◌++◌, length, Bool, true, false, ◌&&◌, not, Option, refl, ap, sym, subst, ◌∙◌, arith}
+use Rattle.std.specs.Prelude.{◌==◌, ◌%◌, if◌then◌else◌}
+use Rattle.std.proofs.lemmas.Bool.{eqb-true}
 use Rattle.std.proofs.lemmas.Bool.Decides.{nat_tests}
 use Rattle.xd_value.specs.Tree.{Tree}
 use Rattle.xd_value.specs.Channels.{channels}
 use Rattle.xd_channel.specs.State.{end_of}
 use Rattle.xd_factory.specs.declared.parity.Parity.{Parity}
 use Rattle.xd_factory.specs.declared.parity.Parity.TheVariants.{Odd}
-use Rattle.xd_factory.specs.declared.taken.Taken.{Taken}
 use Rattle.xd_factory.specs.declared.taken.Taken.TheVariants as taken
 use Rattle.xd_factory.specs.Numbers.{is_in, is_mine}
 use Rattle.xd_factory.specs.Said.{Data, Close}
 use Rattle.xd_factory.specs.Slot.{Slot, Unseen, Here, Gone, hooked_slot, function_ended_slot}
-use Rattle.xd_factory.specs.Table.{answer_of, arrived_answer, heard_slot, named_in, told_slot, opened_count}
+use Rattle.xd_factory.specs.Table.{answer_of, heard_slot, named_in, told_slot, opened_count}
 use Rattle.xd_worker_tests.specs.Line.{number_of_log}
 use Rattle.xd_system_messages.proofs.Tables.{open_end, put_at}
 
@@ -91,7 +90,7 @@ start_opens n v slot c names here new =
         let unseen : slot c ≡ Unseen = ap slot (sym same) ∙ new in
         let own = start_own v log c (slot c) h apart even unseen in
         let left : with_hook log (λ k. told_slot (is_mine Odd k) k (Data 1 v) (named_in (is_mine Odd k) (is_in k (log ∷ 1 ∷ [])) (slot k))) c ≡ Here (open_end true)
-            = ap (λ (b : Bool). if b then hooked_slot (told_slot (is_mine Odd c) c (Data 1 v) (named_in (is_mine Odd c) (is_in c (log ∷ 1 ∷ [])) (slot c))) else told_slot (is_mine Odd c) c (Data 1 v) (named_in (is_mine Odd c) (is_in c (log ∷ 1 ∷ [])) (slot c))) h ∙ own in
+        = ap (λ (b : Bool). if b then hooked_slot (told_slot (is_mine Odd c) c (Data 1 v) (named_in (is_mine Odd c) (is_in c (log ∷ 1 ∷ [])) (slot c))) else told_slot (is_mine Odd c) c (Data 1 v) (named_in (is_mine Odd c) (is_in c (log ∷ 1 ∷ [])) (slot c))) h ∙ own in
         left ∙ sym (ap (λ (b : Bool). if b then Here (open_end true) else slot c) h)
     by_test false h =
         let at : (1 == c) ≡ true → slot c ≡ Here (open_end true) = λ q. ap slot (sym (eqb-true 1 c q)) ∙ here in

@@ -1,8 +1,7 @@
 -- The laws of a system hold in each state that steps over messages reach.
-use Rattle.std.proofs.Common.{◌≡◌, ℕ, []}
+use Rattle.std.proofs.Common.{ℕ, []}
 use Rattle.xd_journal.specs.declared.settings.Settings.{Settings}
 use Rattle.xd_run.specs.Proper.{IsProper}
-use Rattle.xd_session.specs.History.{run_of}
 use Rattle.xd_system.specs.Moment.{IsHonestAt}
 use Rattle.xd_system.proofs.Accused.{never_accused}
 use Rattle.xd_system.proofs.Items.{runs_once}

@@ -1,5 +1,5 @@
--- What a worker says to whom the messages of a run come is, as its controller hears it, what its call of `run_tests` tells.
--- No session stands here: one worker, and one controller's end of its link.
+-- What a worker says to whom the messages of a run come is, as its controller hears it, what its call of `run_tests`
+-- tells. No session stands here: one worker, and one controller's end of its link.
 use Rattle.std.specs.Prelude.{◌≡◌, ℕ, ◌≤◌, true, false, List, [], ◌∷◌, ◌++◌, length, Some, option_to_list}
 use Rattle.std.specs.List.{filter_map, list_all}
 use Rattle.std.specs.Str.{all_scalars, encode_utf8_all}
@@ -36,8 +36,9 @@ pub record CanBeCalled (suite : List ℕ) (mode : ModeKind) : Type 0 where
   pub short : length (encode_utf8_all suite) ≤ 65536
   pub on_workers : mode ≡ Local → ⊥
 
--- The call took these inputs, as they come in a run, and its orders are the first of those that were told. What the worker
--- said means, as news, exactly what the call tells, and the tests that it was asked to start are those of the call.
+-- The call took these inputs, as they come in a run, and its orders are the first of those that were told. What the
+-- worker said means, as news, exactly what the call tells, and the tests that it was asked to start are those of the
+-- call.
 pub record IsHeardAsCalled (orders : List Order) (h : List HeardInput) (gs : List Given) : Type 0 where
   pub comes : list_all is_of_run gs ≡ true
   pub ordered : IsFirstPart (orders_of gs) orders
@@ -54,7 +55,8 @@ SaysWhatItTells =
     → CanBeCalled suite mode → AreSayable (filter_map order_of orders)
     → AreHeardInputs inputs h → AreGiven h → has_link_end inputs ≡ false
     → IsFirstPart (messages_in inputs) (to_link suite mode orders []) → (messages_in inputs ≡ [] → ⊥)
-    → (s : Service) × ((worker_after h).duties.service ≡ Some s) × IsHeardAsCalled (filter_map order_of orders) h s.given
+    → (s : Service) × ((worker_after h).duties.service ≡ Some s)
+    × IsHeardAsCalled (filter_map order_of orders) h s.given
 
 -- Before the call it says nothing, starts nothing, and asks for nothing.
 abbrev pub WaitsForItsCall : Type 0

@@ -1,7 +1,7 @@
--- A system in steps, over messages: a controller that takes news one by one, and workers at the other ends of links, which
--- take the messages that it writes. Links carry bytes in order and may be cut at any of them, so that a first part of the
--- messages is heard.
-use Rattle.std.specs.Prelude.{◌≡◌, ◌==◌, ◌||◌, not, ℕ, Bool, true, false, List, [], ◌∷◌, ◌++◌, Option, Some, None, filter, if◌then◌else◌}
+-- A system in steps, over messages: a controller that takes news one by one, and workers at the other ends of links,
+-- which take the messages that it writes. Links carry bytes in order and may be cut at any of them, so that a first
+-- part of the messages is heard.
+use Rattle.std.specs.Prelude.{◌≡◌, ◌==◌, ℕ, Bool, true, false, List, [], ◌∷◌, ◌++◌, Option, Some, None, filter, if◌then◌else◌}
 use Rattle.std.specs.List.{list_any}
 use Rattle.xd_frame.specs.Message.{MessageView}
 use Rattle.xd_journal.specs.declared.entry.Cause.{Cause}
@@ -66,8 +66,8 @@ cut_end e = record { came = e.came; history = e.history; whole = false }
 abbrev pub entries_to : ℕ → List Entry → List Entry
 entries_to w es = filter (is_told_to w) es
 
--- what the controller writes to a worker until the worker has ended. GATEWAY_TERMINATE, which it sends after that, is no
--- step here: a worker that has ended says nothing more.
+-- what the controller writes to a worker until it took that the worker has ended; the GATEWAY_TERMINATE that it writes
+-- then is no step here
 abbrev pub written_to : List ℕ → Settings → List News → ℕ → List MessageView
 written_to suite settings taken w = to_link suite settings.mode (entries_to w (run_of settings taken).entries) []
 
@@ -77,7 +77,8 @@ heard_last s w = list_any is_link_over (said_by w s.taken)
 
 -- what came to the worker next is what may come to it: of the link the next message that was written to it, and of a
 -- suite or a program only what is due
-pub record MayComeNext (suite : List ℕ) (settings : Settings) (s : MessageSystem) (w : ℕ) (i : WorkerInput) (g : HeardInput) : Type 0 where
+pub record MayComeNext (suite : List ℕ) (settings : Settings) (s : MessageSystem)
+    (w : ℕ) (i : WorkerInput) (g : HeardInput) : Type 0 where
   pub begun : WasBegun settings s.taken w
   pub heard : IsHeard (worker_after (s.ends w).history) i g
   pub given : IsGiven g.came
@@ -97,17 +98,20 @@ pub data MessageStep (suite : List ℕ) (settings : Settings) (s : MessageSystem
   Comes : (w : ℕ) (i : WorkerInput) (g : HeardInput) → MayComeNext suite settings s w i g
       → MessageStep suite settings s (system_with_end s w (end_with_input (s.ends w) i g))
   IsTaken : (w : ℕ) (x : What) → WasBegun settings s.taken w → heard_last s w ≡ false
-      → AreNewsSoFar (all_said (s.ends w).history) (said_by w s.taken ++ x ∷ []) → MessageStep suite settings s (system_with_taken s w x)
+      → AreNewsSoFar (all_said (s.ends w).history) (said_by w s.taken ++ x ∷ [])
+      → MessageStep suite settings s (system_with_taken s w x)
   IsCut : (w : ℕ) → MessageStep suite settings s (system_with_end s w (cut_end (s.ends w)))
   IsGone : (w : ℕ) (cause : Cause) → WasBegun settings s.taken w → (s.ends w).whole ≡ false → heard_last s w ≡ false
       → is_breach (Gone cause) ≡ false → MessageStep suite settings s (system_with_taken s w (Gone cause))
-  Unstarted : (w : ℕ) → WasBegun settings s.taken w → (s.ends w).whole ≡ false → (s.ends w).came ≡ [] → heard_last s w ≡ false
+  Unstarted : (w : ℕ) → WasBegun settings s.taken w → (s.ends w).whole ≡ false → (s.ends w).came ≡ []
+      → heard_last s w ≡ false
       → MessageStep suite settings s (system_with_taken s w NotStarted)
 
 -- the states that steps reach from a new system
 pub data ReachesByMessages (suite : List ℕ) (settings : Settings) : MessageSystem → Type 0 where
   New : ReachesByMessages suite settings new_system
-  Then : (s t : MessageSystem) → ReachesByMessages suite settings s → MessageStep suite settings s t → ReachesByMessages suite settings t
+  Then : (s t : MessageSystem) → ReachesByMessages suite settings s → MessageStep suite settings s t
+      → ReachesByMessages suite settings t
 
 -- what came to the call, none before it
 abbrev pub given_to_call : Option Service → List Given

@@ -21,11 +21,14 @@ use Rattle.xd_system_messages.specs.Steps.{MessageSystem, ReachesByMessages, lin
 pub record HoldsIn (settings : Settings) (s : MessageSystem) : Type 0 where
   pub never_accused : (w : ℕ) → is_accused w (run_of settings s.taken).entries ≡ false
   pub in_its_place : (w : ℕ) → (s.ends w).whole ≡ true → is_active w (run_of settings s.taken).state.books ≡ true
-      → without (items_given_back settings s.taken w (link_seen (s.ends w))) (held w (run_of settings s.taken).state.books.table)
+      → without (items_given_back settings s.taken w (link_seen (s.ends w)))
+      (held w (run_of settings s.taken).state.books.table)
       ≡ items_of_link settings s.taken w (link_seen (s.ends w))
-  pub moves : (w : ℕ) → (s.ends w).whole ≡ true → owes_step settings s.taken w ≡ true → IsMoving settings s.taken w (link_seen (s.ends w))
-  pub once : list_any is_death (run_of settings s.taken).entries ≡ false → is_over (run_of settings s.taken).state.books ≡ true
-      → is_stopped (run_of settings s.taken).state.books ≡ false → AllRanOnce (run_of settings s.taken) settings (λ w. link_seen (s.ends w))
+  pub moves : (w : ℕ) → (s.ends w).whole ≡ true → owes_step settings s.taken w ≡ true
+      → IsMoving settings s.taken w (link_seen (s.ends w))
+  pub once : list_any is_death (run_of settings s.taken).entries ≡ false
+      → is_over (run_of settings s.taken).state.books ≡ true → is_stopped (run_of settings s.taken).state.books ≡ false
+      → AllRanOnce (run_of settings s.taken) settings (λ w. link_seen (s.ends w))
 
 -- It holds in each state that steps reach.
 -- Example: gw0 runs 0 of 0 to 4, and a Steal of 3 and 4 is on the way to it; whatever it says next is no breach.
