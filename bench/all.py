@@ -9,7 +9,7 @@ import multiprocessing
 
 import shared
 
-BENCHMARKS = "local", "runs", "sockets", "pytest_items", "suite", "drive", "waiting", "worker", "value", "wire"
+BENCHMARKS = "local", "runs", "sockets", "pytest_items", "suite", "drive", "journal", "waiting", "worker", "value", "wire"
 
 
 def measured(name, program):

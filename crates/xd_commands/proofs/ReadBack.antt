@@ -15,14 +15,14 @@ use Rattle.xd_commands.specs.Kwargs.{AreIndices, both, each_of, test_index_of, t
 use Rattle.xd_commands.specs.Orders.{order_tree, tree_order, IsOrder}
 use Rattle.xd_commands.specs.Events.{event_tree, tree_event, IsEvent, is_failure_code}
 
-texts_read : (ts : List (List ℕ)) → each_of text_in_tree (trees_of (map text ts)) ≡ Some ts
+pub texts_read : (ts : List (List ℕ)) → each_of text_in_tree (trees_of (map text ts)) ≡ Some ts
 texts_read [] = refl
 texts_read (t ∷ ts) = ap (both (λ x xs. x ∷ xs) (Some t)) (texts_read ts)
 
-number_read : (n limit : ℕ) → n < limit → number_below limit (pos n) ≡ Some n
+pub number_read : (n limit : ℕ) → n < limit → number_below limit (pos n) ≡ Some n
 number_read n limit lt = ap (λ (b : Bool). if b then Some n else None) (lt-ltb n limit lt)
 
-indices_read : (ns : List ℕ) → AreIndices ns → each_of test_index_of (trees_of (map (λ n. int (pos n)) ns)) ≡ Some ns
+pub indices_read : (ns : List ℕ) → AreIndices ns → each_of test_index_of (trees_of (map (λ n. int (pos n)) ns)) ≡ Some ns
 indices_read [] h = refl
 indices_read (n ∷ ns) h = ap₂ (both (λ x xs. x ∷ xs)) (number_read n 4294967296 h.0) (indices_read ns h.1)
 

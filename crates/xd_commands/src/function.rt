@@ -196,7 +196,8 @@ fn mode_at(kwargs: &[(Value, Value)]) -> Option<ModeKind>
     mode_of(mode)
 }
 
-fn mode_of(word: &Text) -> Option<ModeKind>
+/// The mode of a word.
+pub fn mode_of(word: &Text) -> Option<ModeKind>
     ensures { result ≡ mode_by_word word.now }
 {
     if is_word(word, "each") {

@@ -81,7 +81,7 @@ fn items_at<'a>(kwargs: &'a [(Value, Value)], key: &str) -> Option<&'a [Value]>
 }
 
 /// The number of a test.
-fn index_of(value: &Value) -> Option<u32>
+pub fn index_of(value: &Value) -> Option<u32>
     ensures { result ≡ test_index_of (view value.now) }
 {
     match value {
@@ -90,19 +90,22 @@ fn index_of(value: &Value) -> Option<u32>
     }
 }
 
-pub(crate) fn index_from(n: i128) -> Option<u32>
+/// The number of a test, if an integer is one.
+pub fn index_from(n: i128) -> Option<u32>
     ensures { result ≡ number_below 4294967296 n }
 {
     u32::try_from(n).ok()
 }
 
-pub(crate) fn duration_from(n: i128) -> Option<u64>
+/// Milliseconds, if an integer is a number of them.
+pub fn duration_from(n: i128) -> Option<u64>
     ensures { result ≡ number_below 18446744073709551616 n }
 {
     u64::try_from(n).ok()
 }
 
-fn indices_of(alloc: Global, values: &[Value]) -> Result<Option<Indices>, OutOfMemory>
+/// The numbers of tests that values are, if each is one.
+pub fn indices_of(alloc: Global, values: &[Value]) -> Result<Option<Indices>, OutOfMemory>
     ensures { IfOk result (λ r. r ≡ each_of test_index_of (views values.now)) }
 {
     let mut items = Vec::new(alloc);
@@ -115,7 +118,8 @@ fn indices_of(alloc: Global, values: &[Value]) -> Result<Option<Indices>, OutOfM
     Ok(Some(Indices { items }))
 }
 
-fn texts_of(alloc: Global, values: &[Value]) -> Result<Option<Texts>, OutOfMemory>
+/// The texts that values are, if each is one.
+pub fn texts_of(alloc: Global, values: &[Value]) -> Result<Option<Texts>, OutOfMemory>
     ensures { IfOk result (λ r. r ≡ each_of text_in_tree (views values.now)) }
 {
     let mut items = Vec::new(alloc);
@@ -187,11 +191,12 @@ pub(crate) fn indices_kwargs(
 }
 
 /// Numbers of 32 bits are numbers that a test may have.
-pub(crate) fn indices_fit(numbers: &[u32])
+pub fn indices_fit(numbers: &[u32])
     ensures { AreIndices numbers.now }
 {}
 
-fn numbers_value(alloc: Global, numbers: &[u32]) -> Result<Value, OutOfMemory>
+/// Numbers as a list.
+pub fn numbers_value(alloc: Global, numbers: &[u32]) -> Result<Value, OutOfMemory>
     ensures { IfOk result (λ v. view v ≡ list (trees_of (map (λ n. int (pos n)) numbers.now))) }
 {
     let mut items = Vec::with_capacity(alloc, numbers.len())?;
@@ -202,7 +207,7 @@ fn numbers_value(alloc: Global, numbers: &[u32]) -> Result<Value, OutOfMemory>
 }
 
 /// Texts as a list.
-pub(crate) fn texts_value(alloc: Global, texts: &[Text]) -> Result<Value, OutOfMemory>
+pub fn texts_value(alloc: Global, texts: &[Text]) -> Result<Value, OutOfMemory>
     ensures { IfOk result (λ v. view v ≡ list (trees_of (map text texts.now))) }
 {
     let mut items = Vec::with_capacity(alloc, texts.len())?;

@@ -18,8 +18,11 @@ mod words;
 
 pub use call::have_text_keys;
 pub use events::{event_value, value_event};
-pub use function::{CallFault, Called, Function, FunctionName, read_call};
-pub use kwargs::{text_at, value_at};
+pub use function::{CallFault, Called, Function, FunctionName, mode_of, read_call};
+pub use kwargs::{
+    duration_from, index_from, index_of, indices_fit, indices_of, numbers_value, text_at, texts_of,
+    texts_value, value_at,
+};
 pub use laws::{call_payload_law, event_law, event_payload_law, order_law, order_payload_law};
 pub use order::Order;
 pub use orders::{order_value, value_order};
