@@ -32,7 +32,7 @@ use Rattle.xd_worker.specs.Talk.{Talk, function_begun}
 use Rattle.xd_worker.specs.Turns.{Came, Told, at_talk, called, tests_begun, worker_turned}
 use Rattle.xd_worker.specs.Worker.{Service, WorkerTurn, new_worker, worker_turn_of}
 use Rattle.xd_system_messages.specs.Bridge.{CanBeCalled}
-use Rattle.xd_system_messages.proofs.Asks.{new_lined}
+use Rattle.xd_system_messages.proofs.Spoken.{new_lined}
 use Rattle.xd_system_messages.proofs.Ears.{Ears}
 use Rattle.xd_system_messages.proofs.Linked.{Linked, LinkedThen, plain, rest_of}
 use Rattle.xd_system_messages.proofs.Served.{Served}

@@ -50,8 +50,9 @@ use Rattle.xd_worker.specs.Turns.{Came, Told, SuiteRead, NoSuite, Printed, Child
 use Rattle.xd_worker.specs.Worker.{Service, Worker, WorkerTurn, worker_turn_of}
 use Rattle.xd_system.specs.Tells.{are_suite_ids, comes_in_run, order_in, orders_of, tells}
 use Rattle.xd_system.proofs.Suites.{suite-ids}
-use Rattle.xd_system_messages.specs.Given.{IsErrorText, IsGiven, is_text_if_any, is_text_test}
-use Rattle.xd_system_messages.proofs.Asks.{IsGivenInput, is_over}
+use Rattle.xd_system_messages.specs.Given.{IsGiven, is_text_if_any, is_text_test}
+use Rattle.xd_system_messages.proofs.Asks.{IsErrorText, IsGivenInput, is_over}
+use Rattle.xd_system_messages.proofs.Reasons.{reason_text}
 use Rattle.xd_system_messages.proofs.Linked.{LinkedThen, rest_of}
 use Rattle.xd_system_messages.proofs.Served.{Before, Served, served}
 use Rattle.xd_system_messages.proofs.Slots.{gone_dropped, gone_keeps, item_handed, item_keeps}
@@ -203,6 +204,10 @@ too_large : IsErrorText (codes "suite is too large")
 unfolding lib.Utf8.encode
 too_large = (refl, refl)
 
+unread : IsErrorText (codes "suite cannot be read")
+unfolding lib.Utf8.encode
+unread = (refl, refl)
+
 record IsSuiteInput (i : Input) : Type 0 where
   ok : IsGivenInput i
   comes : comes_in_run i ≡ true
@@ -256,7 +261,7 @@ module _ (taken_ : List Order) (h : List HeardInput) (k : Served taken_ h) (g : 
 
   suite_came : (b : List ℕ) (c : Came) → g.came ≡ c → IsSuite b c → IsGiven c → worker.duties.owed ≡ true → Counts (table_after g.came worker.table).slot g.channels → Served taken_ (g ∷ h)
   suite_came b (SuiteRead ts) is suite ok owed counts = has_suite b ts is suite ok owed counts
-  suite_came b (NoSuite text) is suite ok owed counts = no_suite taken_ h k g text is owed ok counts
+  suite_came b (NoSuite text) is suite ok owed counts = no_suite taken_ h k g text is owed (reason_text b text suite) counts
   suite_came b (Told said) is suite ok owed counts = absurd suite
   suite_came b (Printed x) is suite ok owed counts = absurd suite
   suite_came b (ChildEnded outcome ms) is suite ok owed counts = absurd suite
@@ -266,8 +271,8 @@ module _ (taken_ : List Order) (h : List HeardInput) (k : Served taken_ h) (g : 
   pub comes_other : (i : WorkerInput) → IsHeard worker i g → IsGiven g.came → is_link_end i ≡ false → message_in i ≡ [] → Served taken_ (g ∷ h)
   comes_other (Message m) x ok goes none = absurd (let z = none in cc)
   comes_other (SuiteBytes b) x ok goes none = suite_came b g.came refl x.is ok x.due x.counts
-  comes_other SuiteTooLarge x ok goes none = no_suite taken_ h k g (codes "suite is too large") x.is x.due (subst IsGiven x.is ok) x.counts
-  comes_other SuiteUnread x ok goes none = no_suite taken_ h k g (codes "suite cannot be read") x.is x.due (subst IsGiven x.is ok) x.counts
+  comes_other SuiteTooLarge x ok goes none = no_suite taken_ h k g (codes "suite is too large") x.is x.due too_large x.counts
+  comes_other SuiteUnread x ok goes none = no_suite taken_ h k g (codes "suite cannot be read") x.is x.due unread x.counts
   comes_other (Output b) x ok goes none =
       fed_by taken_ h k g (worker_turn_of worker) (input.Output b) (ap (λ (c : Came). worker_turned c g.channels (worker_turn_of worker)) x.is) refl refl refl refl (subst (λ (c : Came). Counts (table_after c worker.table).slot g.channels) x.is x.counts) tt refl refl
   comes_other (ChildDone outcome ms) x ok goes none =

@@ -8,8 +8,10 @@ pub mod Linked
 pub mod Payloads
 pub mod Prefixes
 pub mod Reached
+pub mod Reasons
 pub mod Sayable
 pub mod Served
 pub mod Slots
+pub mod Spoken
 pub mod SystemLaw
 pub mod Tables

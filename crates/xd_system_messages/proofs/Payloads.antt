@@ -8,7 +8,7 @@ use Rattle.xd_value.specs.Tree.{bytes, text}
 use Rattle.xd_value.proofs.Dumped.{dumped_payload}
 use Rattle.xd_journal.specs.Kept.{most_of_one}
 use Rattle.xd_commands.proofs.Fitting.{dumped_is}
-use Rattle.xd_system_messages.specs.Given.{IsErrorText}
+use Rattle.xd_system_messages.proofs.Asks.{IsErrorText}
 
 bytes_length : (b : List ℕ) → length (canonical (bytes b)) ≡ length b + 6
 bytes_length b = omega (arith, length-append (form (bytes b)) (81 ∷ []), length-append (to_be_bytes w32 (length b)) b)

@@ -27,7 +27,8 @@ use Rattle.xd_worker.specs.Worker.{Service, WorkerTurn, running_in}
 use Rattle.xd_system.specs.Moment.{IsFirstPart}
 use Rattle.xd_system.specs.Tells.{comes_in_run, is_of_run, news_of_ask, news_of_asks, order_in, orders_of, tells}
 use Rattle.xd_system_messages.specs.Bridge.{started_by}
-use Rattle.xd_system_messages.proofs.Asks.{IsGivenInput, IsOfRun, Lined, is_over, over_turn, turn_speaks}
+use Rattle.xd_system_messages.proofs.Asks.{IsGivenInput, IsOfRun, Lined, is_over}
+use Rattle.xd_system_messages.proofs.Spoken.{over_turn, turn_speaks}
 use Rattle.xd_system_messages.proofs.Ears.{Ears}
 use Rattle.xd_system_messages.proofs.Linked.{Linked, LinkedThen, all_linked, rest_of}
 use Rattle.xd_system_messages.proofs.Tables.{Channels, counts, few, numbers_of}

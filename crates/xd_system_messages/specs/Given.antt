@@ -1,16 +1,11 @@
 -- What files and programs give a worker.
-use Rattle.std.specs.Prelude.{◌≡◌, ◌<◌, ℕ, Bool, true, false, ◌&&◌, List, [], ◌∷◌, Option, Some, None}
+use Rattle.std.specs.Prelude.{◌≡◌, ◌<◌, ℕ, Bool, true, ◌&&◌, List, [], ◌∷◌, Option, Some, None}
 use Rattle.std.specs.List.{list_all}
 use Rattle.std.specs.Str.{all_scalars}
-use Rattle.xd_factory.specs.Table.{is_long}
 use Rattle.xd_suite.specs.declared.test.Test.{Test}
 use Rattle.xd_commands.specs.Events.{IsOutcome}
 use Rattle.xd_worker.specs.Turns.{Came, Told, SuiteRead, NoSuite, Printed, ChildEnded, LinkEnded}
 use Rattle.xd_worker.specs.History.{HeardInput}
-
--- a text of Unicode's scalar values that a message can hold, as each reason of a worker is
-abbrev pub IsErrorText : List ℕ → Type 0
-IsErrorText text = (all_scalars text ≡ true) × (is_long (Some text) ≡ false)
 
 -- the group is a text, where there is one
 abbrev pub is_text_if_any : Option (List ℕ) → Bool
@@ -21,13 +16,13 @@ is_text_if_any (Some group) = all_scalars group
 abbrev pub is_text_test : Test → Bool
 is_text_test t = all_scalars t.id && is_text_if_any t.group
 
--- What came is what the program's own types hold: ids and reasons are texts, and a test ends with an outcome and after
+-- What came is what the program's own types hold: ids and groups are texts, and a test ends with an outcome and after
 -- milliseconds of 64 bits.
 -- Example: a test that failed with the code 77 does not end so, since that code is a skip.
 abbrev pub IsGiven : Came → Type 0
 IsGiven (Told said) = Unit {0}
 IsGiven (SuiteRead tests) = list_all is_text_test tests ≡ true
-IsGiven (NoSuite text) = IsErrorText text
+IsGiven (NoSuite text) = Unit {0}
 IsGiven (Printed b) = Unit {0}
 IsGiven (ChildEnded outcome ms) = IsOutcome outcome × (ms < 18446744073709551616)
 IsGiven LinkEnded = Unit {0}
