@@ -25,27 +25,24 @@ use Rattle.xd_session.specs.Stands.{SessionSeen, StandsForNews, state_of}
 use Rattle.xd_session.proofs.Steps.{sound-run}
 use Rattle.xd_drive.specs.declared.written.Written.{Written}
 use Rattle.xd_drive.specs.declared.written.Written.TheVariants.{Whole as WholeAt, Broken as BrokenAt}
-use Rattle.xd_drive.specs.Driven.{Broken, Ended, IsJournalOf, Whole, run_given}
+use Rattle.xd_drive.specs.Driven.{Broken, Ended, IsJournalOf, Whole}
 use Rattle.xd_drive.specs.Failing.{FailedAt}
-use Rattle.xd_drive.specs.Going.{EndsRun, HubScene}
-use Rattle.xd_drive.specs.Moments.{ToldInOrder, performed_of}
-use Rattle.xd_drive.specs.Performing.{AddsAll, Performs, all_possible, is_call, is_start, kills_of_started}
+use Rattle.xd_drive.specs.Going.{EndsRun}
+use Rattle.xd_drive.specs.Moments.{LinesFirst, LinesFirstOf}
+use Rattle.xd_drive.specs.Performing.{all_possible, kills_of_started}
+use Rattle.xd_drive.specs.Seen.{HubScene, HubSeen, Performs, HubTells}
 use Rattle.xd_report.specs.Printing.{ShowsEnd}
-use Rattle.xd_drive.specs.Taken.{AreInTime, taken_of}
+use Rattle.xd_drive.specs.Taken.{AreInTime, run_given, taken_of}
 use Rattle.xd_drive.proofs.Failing.{failed-following, failed-part}
-use Rattle.xd_drive.proofs.InOrder.{order-broken}
 use Rattle.xd_drive.proofs.Kept.{kept-ended}
 use Rattle.xd_drive.proofs.Loop.{whole-of}
-use Rattle.xd_drive.proofs.Performs.{performs-more}
+use Rattle.xd_drive.proofs.Performs.{performs-none, tells-performed}
 use Rattle.xd_drive.proofs.Stepped.{state-is}
 use Rattle.xd_drive.proofs.Texts.{silent-ending, text-following, text-is}
 
--- the end asks for no start and no call where the run is over
-over-performs : (es : List Entry) (b : Books) (s0 s1 c0 c1 : _) → Performs es s0 s1 c0 c1 → Performs (es ++ ending false b) s0 s1 c0 c1
-over-performs es b s0 s1 c0 c1 p = record {
-  starts = subst (λ (l : List Entry). AddsAll l s0 s1) (sym (filter-append is_start es (Over (run_end_of b) ∷ []) ∙ append-nil (filter is_start es))) p.starts;
-  calls = subst (λ (l : List Entry). AddsAll l c0 c1) (sym (filter-append is_call es (Over (run_end_of b) ∷ []) ∙ append-nil (filter is_call es))) p.calls;
-}
+-- the end asks for no call where the run is over
+over-tells : (es : List Entry) (b : Books) (given : List News) (old new : Option HubSeen) → HubTells es given old new → HubTells (es ++ ending false b) given old new
+over-tells es b given old new t = tells-performed es (ending false b) given old new new t (performs-none new)
 
 module _ (failed : Bool) (s : SessionSeen) (given : List News) (j : Journal) (p : IsProper s.settings []) (same : j.settings ≡ s.settings) (entries_are : j.entries.items ≡ s.entries ++ ending failed (state_of s).books) (st : StandsForNews (taken_of s.settings given) s) where
   ended : may_close failed (state_of s).books ≡ true → stop_of j ≡ last_stop failed (state_of s).books → AreInTime s.settings given → Ended failed given j
@@ -61,38 +58,39 @@ module _ (failed : Bool) (s : SessionSeen) (given : List News) (j : Journal) (p 
   text-same : text_of j ≡ run_text s.settings s.entries
   text-same = text-is j s.settings (s.entries ++ ending failed (state_of s).books) same entries_are ∙ text-following (ending failed (state_of s).books) (silent-ending failed (state_of s).books) s.settings s.entries
 
-pub whole : (s : SessionSeen) (j : Journal) (old new : HubScene) → IsProper s.settings [] → j.settings ≡ s.settings → j.entries.items ≡ s.entries ++ ending false (state_of s).books → stop_of j ≡ last_stop false (state_of s).books → EndsRun WholeAt s old new
-    → (given : List News) × Whole given j old new
-whole s j old new p same is stop e =
+pub whole : (s : SessionSeen) (j : Journal) (old new : HubScene) (ms : List HubScene) → IsProper s.settings [] → j.settings ≡ s.settings → j.entries.items ≡ s.entries ++ ending false (state_of s).books → stop_of j ≡ last_stop false (state_of s).books → EndsRun WholeAt s old new ms
+    → (given : List News) × Whole given j old new ms
+whole s j old new ms p same is stop e =
     let f = e.1 in (
       e.0,
       record {
         ended = ended false s (e.0) j p same is f.stands f.over stop f.in_time;
-        gave = f.gave;
-        performed = subst (λ (es : List Entry). Performs es old.starts new.starts old.calls new.calls) (sym is) (over-performs s.entries (state_of s).books _ _ _ _ f.performed);
+        tells = subst (λ (es : List Entry). HubTells es (e.0) old.seen new.seen) (sym is) (over-tells s.entries (state_of s).books (e.0) old.seen new.seen f.tells);
+        lines_first = subst (λ (x : Settings). LinesFirst x (e.0) old ms) (sym same) f.lines_first;
         shows = subst (λ (l : List ℕ). ShowsEnd true l old.sunk new.sunk) (sym (text-same false s (e.0) j p same is f.stands)) f.shows;
       },
     )
 
-pub kills-left : (count : ℕ) (s : SessionSeen) (j : Journal) (old new : HubScene) (slots : ℕ) → j.entries.items ≡ s.entries ++ ending true (state_of s).books → EndsRun (BrokenAt count) s old new
+pub kills-left : (count : ℕ) (s : SessionSeen) (j : Journal) (old new : HubScene) (ms : List HubScene) (slots : ℕ) → j.entries.items ≡ s.entries ++ ending true (state_of s).books → EndsRun (BrokenAt count) s old new ms
     → all_possible slots new.marks (kills_of_started (take count j.entries.items) (drop count j.entries.items)) ≡ true
-kills-left count s j old new slots is e =
+kills-left count s j old new ms slots is e =
     let f = e.1 in
     ap (λ (es : List Entry). all_possible slots new.marks (kills_of_started (take count es) (drop count es))) is
     ∙ ap (λ (es : List Entry). all_possible slots new.marks (kills_of_started es (drop count (s.entries ++ ending true (state_of s).books)))) (take-append-le count s.entries (ending true (state_of s).books) f.within)
     ∙ ap (λ (es : List Entry). all_possible slots new.marks (kills_of_started (take count s.entries) es)) (drop-append-le count s.entries (ending true (state_of s).books) f.within) ∙ f.kills slots
 
-pub broken : (count : ℕ) (s : SessionSeen) (j : Journal) (old mid new : HubScene) → IsProper s.settings [] → j.settings ≡ s.settings → j.entries.items ≡ s.entries ++ ending true (state_of s).books → stop_of j ≡ last_stop true (state_of s).books → EndsRun (BrokenAt count) s old mid
-    → Performs (kills_of_started (take count j.entries.items) (drop count j.entries.items)) mid.starts new.starts mid.calls new.calls → new.given ≡ mid.given → new.sunk ≡ mid.sunk → (given : List News) × Broken count given j old new
-broken count s j old mid new p same is stop e kills given sunk =
+pub broken : (count : ℕ) (s : SessionSeen) (j : Journal) (old mid new : HubScene) (ms : List HubScene) → IsProper s.settings [] → j.settings ≡ s.settings → j.entries.items ≡ s.entries ++ ending true (state_of s).books → stop_of j ≡ last_stop true (state_of s).books → EndsRun (BrokenAt count) s old mid ms
+    → Performs (kills_of_started (take count j.entries.items) (drop count j.entries.items)) mid.seen new.seen → new.sunk ≡ mid.sunk → (given : List News) × Broken count given j old new ms
+broken count s j old mid new ms p same is stop e kills sunk =
     let f = e.1 in
     let first : take count j.entries.items ≡ take count s.entries = ap (take count) is ∙ take-append-le count s.entries (ending true (state_of s).books) f.within in (
       e.0,
       record {
         ended = ended true s (e.0) j p same is f.stands refl stop f.in_time;
-        gave = given ∙ f.gave;
-        performed = performs-more (take count j.entries.items) (kills_of_started (take count j.entries.items) (drop count j.entries.items)) old.starts mid.starts new.starts old.calls mid.calls new.calls
-            (subst (λ (es : List Entry). Performs es old.starts mid.starts old.calls mid.calls) (sym first) f.performed) kills;
+        tells = tells-performed (take count j.entries.items) (kills_of_started (take count j.entries.items) (drop count j.entries.items)) (e.0) old.seen mid.seen new.seen
+            (subst (λ (es : List Entry). HubTells es (e.0) old.seen mid.seen) (sym first) f.tells) kills;
+        lines_first = subst (λ (x : Settings). LinesFirstOf (take count j.entries.items) x (e.0) old ms) (sym same)
+            (subst (λ (es : List Entry). LinesFirstOf es s.settings (e.0) old ms) (sym first) f.lines_first);
         failed = subst (λ (o : Option Sunk). FailedAt j.settings (taken_of j.settings (e.0)) count j.entries.items old.sunk o) (sym sunk)
             (subst (λ (x : Settings). FailedAt x (taken_of x (e.0)) count j.entries.items old.sunk mid.sunk) (sym same)
             (subst (λ (es : List Entry). FailedAt s.settings (taken_of s.settings (e.0)) count es old.sunk mid.sunk) (sym is)
@@ -141,29 +139,28 @@ module _ (settings : Settings) (s : SessionSeen) (j : Journal) (proper : IsPrope
   still : IsProper s.settings []
   still = subst (λ (x : Settings). IsProper x []) (sym kept) proper
 
-  pub drive-journal : (old new : HubScene) → ((x : ℕ) → written ≡ BrokenAt x → ⊥) → j.entries.items ≡ s.entries ++ ending false (state_of s).books → IsLegal j → EndsRun written s old new → IsJournalOf settings j
-  drive-journal old new none is legal e =
-      let f = subst (λ (o : Written). EndsRun o s old new) (whole-of written none) e in
+  pub drive-journal : (old new : HubScene) (ms : List HubScene) → ((x : ℕ) → written ≡ BrokenAt x → ⊥) → j.entries.items ≡ s.entries ++ ending false (state_of s).books → IsLegal j → EndsRun written s old new ms → IsJournalOf settings j
+  drive-journal old new ms none is legal e =
+      let f = subst (λ (o : Written). EndsRun o s old new ms) (whole-of written none) e in
       subst (λ (x : Settings). IsJournalOf x j) kept (journal-by false s j (taken_of s.settings (f.0)) still same is f.1.over legal f.1.stands)
 
-  pub drive-journal-broken : (count : ℕ) → written ≡ BrokenAt count → (old new : HubScene) → j.entries.items ≡ s.entries ++ ending true (state_of s).books → IsLegal j → EndsRun written s old new → IsJournalOf settings j
-  drive-journal-broken count some old new is legal e =
-      let f = subst (λ (o : Written). EndsRun o s old new) some e in
+  pub drive-journal-broken : (count : ℕ) → written ≡ BrokenAt count → (old new : HubScene) (ms : List HubScene) → j.entries.items ≡ s.entries ++ ending true (state_of s).books → IsLegal j → EndsRun written s old new ms → IsJournalOf settings j
+  drive-journal-broken count some old new ms is legal e =
+      let f = subst (λ (o : Written). EndsRun o s old new ms) some e in
       subst (λ (x : Settings). IsJournalOf x j) kept (journal-by true s j (taken_of s.settings (f.0)) still same is refl legal f.1.stands)
 
-  pub drive-whole : (old new : HubScene) → ((x : ℕ) → written ≡ BrokenAt x → ⊥) → j.entries.items ≡ s.entries ++ ending false (state_of s).books → stop_of j ≡ last_stop false (state_of s).books → EndsRun written s old new
-      → (given : List News) × Whole given j old new
-  drive-whole old new none is stop e = whole s j old new still same is stop (subst (λ (o : Written). EndsRun o s old new) (whole-of written none) e)
+  pub drive-whole : (old new : HubScene) (ms : List HubScene) → ((x : ℕ) → written ≡ BrokenAt x → ⊥) → j.entries.items ≡ s.entries ++ ending false (state_of s).books → stop_of j ≡ last_stop false (state_of s).books → EndsRun written s old new ms
+      → (given : List News) × Whole given j old new ms
+  drive-whole old new ms none is stop e = whole s j old new ms still same is stop (subst (λ (o : Written). EndsRun o s old new ms) (whole-of written none) e)
 
   module _ (count : ℕ) (some : written ≡ BrokenAt count) (is : j.entries.items ≡ s.entries ++ ending true (state_of s).books) (a b : List Entry) (first : a ≡ j.entries.items) (second : b ≡ j.entries.items) where
-    pub drive-kills : (old mid : HubScene) (slots : ℕ) → EndsRun written s old mid → all_possible slots mid.marks (kills_of_started (take count a) (take (length b - count) (drop count b))) ≡ true
-    drive-kills old mid slots e =
-        ap (all_possible slots mid.marks) (slices count a b j.entries.items first second) ∙ kills-left count s j old mid slots is (subst (λ (o : Written). EndsRun o s old mid) some e)
+    pub drive-kills : (old mid : HubScene) (ms : List HubScene) (slots : ℕ) → EndsRun written s old mid ms → all_possible slots mid.marks (kills_of_started (take count a) (take (length b - count) (drop count b))) ≡ true
+    drive-kills old mid ms slots e =
+        ap (all_possible slots mid.marks) (slices count a b j.entries.items first second) ∙ kills-left count s j old mid ms slots is (subst (λ (o : Written). EndsRun o s old mid ms) some e)
 
-    pub drive-broken : (old mid new : HubScene) (ms : Option (List HubScene)) → stop_of j ≡ last_stop true (state_of s).books → EndsRun written s old mid → Performs (kills_of_started (take count a) (take (length b - count) (drop count b))) mid.starts new.starts mid.calls new.calls
-        → new.given ≡ mid.given → new.sunk ≡ mid.sunk → ToldInOrder s.settings (performed_of written s.entries) s.entries old ms
-        → (n : ℕ) × (given : List News) × Broken n given j old new × ToldInOrder j.settings n j.entries.items old ms
-    drive-broken old mid new ms stop e kills given sunk o =
-        let whole_of = broken count s j old mid new still same is stop (subst (λ (o : Written). EndsRun o s old mid) some e)
-        (subst (λ (es : List Entry). Performs es mid.starts new.starts mid.calls new.calls) (slices count a b j.entries.items first second) kills) given sunk in
-        (count, whole_of.0, whole_of.1, order-broken count j s old mid ms written some same is e o)
+    pub drive-broken : (old mid new : HubScene) (ms : List HubScene) → stop_of j ≡ last_stop true (state_of s).books → EndsRun written s old mid ms → Performs (kills_of_started (take count a) (take (length b - count) (drop count b))) mid.seen new.seen
+        → new.sunk ≡ mid.sunk → (n : ℕ) × (given : List News) × Broken n given j old new ms
+    drive-broken old mid new ms stop e kills sunk =
+        let ends = broken count s j old mid new ms still same is stop (subst (λ (o : Written). EndsRun o s old mid ms) some e)
+        (subst (λ (es : List Entry). Performs es mid.seen new.seen) (slices count a b j.entries.items first second) kills) sunk in
+        (count, ends.0, ends.1)

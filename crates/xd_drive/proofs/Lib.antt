@@ -5,11 +5,12 @@ pub mod Failures
 pub mod Follow
 pub mod Heard
 pub mod Ids
-pub mod InOrder
 pub mod InTime
 pub mod Kept
 pub mod Kills
+pub mod LinesFirst
 pub mod Loop
+mod MomentRows
 pub mod Named
 pub mod NextListed
 pub mod Outs

@@ -29,16 +29,19 @@ use Rattle.xd_run_laws.proofs.Members.{has}
 use Rattle.xd_drive.specs.declared.written.Written.{Written}
 use Rattle.xd_drive.specs.declared.written.Written.TheVariants.{Whole, Broken}
 use Rattle.xd_drive.specs.Agrees.{Agrees}
-use Rattle.xd_drive.specs.Going.{EndsRun, EndsTail, Finished, Going, HasNoMarks, HubScene, Stopped, TakesNews, Untold}
+use Rattle.xd_drive.specs.Going.{EndsRun, EndsTail, Finished, Going, HasNoMarks, Stopped, TakesNews, Untold}
 use Rattle.xd_drive.specs.Marks.{Marks}
-use Rattle.xd_drive.specs.Performing.{AddsAll, Performs, marks_after, marks_after_entry, all_possible, is_start_of, kills_of_started, was_started}
+use Rattle.xd_drive.specs.Moments.{LinesFirst, LinesFirstOf}
+use Rattle.xd_drive.specs.Performing.{marks_after, marks_after_entry, all_possible, is_start_of, kills_of_started, was_started}
+use Rattle.xd_drive.specs.Seen.{HubScene, HubSeen, Performs, HubTells}
 use Rattle.xd_edge.specs.Printing.{BreaksOff, ShowsSome}
 use Rattle.xd_report.specs.Printing.{ShowsEnd}
-use Rattle.xd_drive.specs.Taken.{AreInTime, taken_of, taken_with}
+use Rattle.xd_drive.specs.Taken.{AreInTime, run_given, taken_of, taken_with}
 use Rattle.xd_drive.proofs.InTime.{in-time-more, in-time-none}
 use Rattle.xd_drive.proofs.Kills.{ending-possible, kills-go}
 use Rattle.xd_drive.proofs.Outs.{goes-start, started-more}
-use Rattle.xd_drive.proofs.Performs.{adds-more, adds-none, performs-more}
+use Rattle.xd_drive.proofs.LinesFirst.{first-more, lines-all, lines-none}
+use Rattle.xd_drive.proofs.Performs.{tells-first, tells-gave, tells-more}
 use Rattle.xd_edge.proofs.PrintLemmas.{shows-all, shows-more}
 use Rattle.xd_report.proofs.Prints.{shows-end}
 use Rattle.xd_drive.proofs.Stepped.{started-by, state-is}
@@ -94,11 +97,11 @@ taken-more settings given n = fold-append (taken_with settings) [] given (n ∷ 
 stands-more : (given : List News) (n : News) (s0 s1 : SessionSeen) → s1.settings ≡ s0.settings → StandsForNews (taken_with s0.settings (taken_of s0.settings given) n) s1 → StandsForNews (taken_of s1.settings (given ++ n ∷ [])) s1
 stands-more given n s0 s1 same st = subst (λ (t : List News). StandsForNews t s1) (sym (taken-more s0.settings given n) ∙ ap (λ (x : Settings). taken_of x (given ++ n ∷ [])) (sym same)) st
 
-module _ (given : List News) (n : News) (s0 s1 : SessionSeen) (old mid new : HubScene) (g : Going given s0 old mid) where
+module _ (given : List News) (n : News) (s0 s1 : SessionSeen) (old mid new : HubScene) (ms after : List HubScene) (g : Going given s0 old mid ms) where
   lines-more : (more : List Entry) → s1.settings ≡ s0.settings → s1.entries ≡ s0.entries ++ more → run_lines s1.settings s1.entries ≡ run_lines s0.settings s0.entries ++ lines_from (after_entries (no_one s0.settings) s0.entries) more
   lines-more more same is = ap (λ (x : Settings). run_lines x s1.entries) same ∙ ap (run_lines s0.settings) is ∙ lines-join (no_one s0.settings) s0.entries more
 
-  pub shows-next : TakesNews n Whole s0 s1 mid new → ShowsSome (run_lines s1.settings s1.entries) old.sunk new.sunk
+  shows-next : TakesNews n Whole s0 s1 mid new ms after → ShowsSome (run_lines s1.settings s1.entries) old.sunk new.sunk
   shows-next t =
       subst (λ (l : List ℕ). ShowsSome l old.sunk new.sunk) (sym (lines-more (t.told.0) t.settings t.told.1.entries))
       (shows-more (run_lines s0.settings s0.entries) _ old.sunk mid.sunk new.sunk g.shows t.told.1.shows)
@@ -109,26 +112,36 @@ module _ (given : List News) (n : News) (s0 s1 : SessionSeen) (old mid new : Hub
       subst (λ (x : Settings). AreInTime x (given ++ n ∷ [])) (sym same)
       (in-time-more s0.settings given n g.in_time (ap (λ (x : State). is_over x.books) (sym (state-is s0 (taken_of s0.settings given) proper g.stands)) ∙ on))
 
-  pub going-next : IsProper s0.settings [] → is_over (state_of s0).books ≡ false → TakesNews n Whole s0 s1 mid new → Going (given ++ n ∷ []) s1 old new
+  -- the lines of the news were printed before what they make was performed
+  lines-next : (t : TakesNews n Whole s0 s1 mid new ms after) → StandsForNews (taken_of s1.settings (given ++ n ∷ [])) s1 → LinesFirst s1.settings (given ++ n ∷ []) old after
+  lines-next t st =
+      let told = t.told.1 in
+      subst (λ (k : List HubScene). LinesFirst s1.settings (given ++ n ∷ []) old k) (sym told.notes)
+      (first-more s1.settings old ms given n mid new told.between (subst (λ (x : Settings). LinesFirst x given old ms) (sym t.settings) g.lines_first)
+      (subst (λ (x : Settings). HubTells (run_given x given).entries given old.seen mid.seen) (sym t.settings) (subst (λ (es : List Entry). HubTells es given old.seen mid.seen) g.stands.entries g.tells))
+      told.gave told.printed (subst (λ (es : List Entry). ShowsSome (run_lines s1.settings es) old.sunk new.sunk) st.entries (shows-next t)))
+
+  pub going-next : IsProper s0.settings [] → is_over (state_of s0).books ≡ false → TakesNews n Whole s0 s1 mid new ms after → Going (given ++ n ∷ []) s1 old new after
   going-next proper on t =
       let more = t.told.0 in
       let told = t.told.1 in
+      let st = stands-more given n s0 s1 t.settings (t.stands (taken_of s0.settings given) g.stands) in
       record {
-        stands = stands-more given n s0 s1 t.settings (t.stands (taken_of s0.settings given) g.stands);
-        gave = adds-more given (n ∷ []) old.given mid.given new.given g.gave t.gave;
-        performed = subst (λ (es : List Entry). Performs es old.starts new.starts old.calls new.calls) (sym told.entries) (performs-more s0.entries more _ _ _ _ _ _ g.performed told.performed);
+        stands = st;
+        tells = subst (λ (es : List Entry). HubTells es (given ++ n ∷ []) old.seen new.seen) (sym told.entries) (tells-more s0.entries more given (n ∷ []) old.seen mid.seen new.seen g.tells told.tells);
         agrees = told.agrees;
         started = λ w. told.started w ∙ ap (λ (b : Bool). b || was_started w more) (g.started w) ∙ sym (list_any-append (is_start_of w) s0.entries more) ∙ ap (was_started w) (sym told.entries);
         in_time = in-time proper on t.settings;
+        lines_first = lines-next t st;
         shows = shows-next t;
       }
 
   -- the output failed at the lines of the news
-  module _ (proper : IsProper s0.settings []) (on : is_over (state_of s0).books ≡ false) (count : ℕ) (t : TakesNews n (Broken count) s0 s1 mid new) where
+  module _ (proper : IsProper s0.settings []) (on : is_over (state_of s0).books ≡ false) (count : ℕ) (t : TakesNews n (Broken count) s0 s1 mid new ms after) where
     abbrev more : List Entry
     more = t.told.0
 
-    abbrev u : Untold n count (t.told.0) s0 s1 mid new
+    abbrev u : Untold n count (t.told.0) s0 s1 mid new ms after
     u = t.told.1
 
     before-is : take count s1.entries ≡ s0.entries
@@ -154,12 +167,17 @@ module _ (given : List News) (n : News) (s0 s1 : SessionSeen) (old mid new : Hub
     breaks : BreaksOff (run_lines s1.settings (take count s1.entries)) (lines_from (after_entries (no_one s1.settings) (take count s1.entries)) (drop count s1.entries)) old.sunk new.sunk
     breaks = (mid.sunk, subst (λ (l : List ℕ). ShowsSome l old.sunk mid.sunk) (sym lines-before) g.shows, subst (λ (l : List ℕ). TookPart l mid.sunk new.sunk) (sym lines-left) u.shows)
 
-    pub going-stop : Stopped (given ++ n ∷ []) count s1 old new
+    lines-before-it : LinesFirstOf (take count s1.entries) s1.settings (given ++ n ∷ []) old after
+    lines-before-it =
+        subst (λ (x : Settings). LinesFirstOf (take count s1.entries) x (given ++ n ∷ []) old after) (sym t.settings)
+        (subst (λ (k : List HubScene). LinesFirstOf (take count s1.entries) s0.settings (given ++ n ∷ []) old k) (sym u.notes)
+        (record { told = given; rest = n ∷ []; split = refl; make = before-is ∙ g.stands.entries; lines_first = g.lines_first }))
+
+    pub going-stop : Stopped (given ++ n ∷ []) count s1 old new after
     going-stop = record {
       stands = stands-more given n s0 s1 t.settings (t.stands (taken_of s0.settings given) g.stands);
-      gave = adds-more given (n ∷ []) old.given mid.given new.given g.gave t.gave;
-      performed = subst (λ (es : List Entry). Performs es old.starts new.starts old.calls new.calls) (sym before-is)
-          (subst (λ (x : Option (List Entry)). Performs s0.entries old.starts x old.calls new.calls) (sym u.starts) (subst (λ (x : Option (List Entry)). Performs s0.entries old.starts mid.starts old.calls x) (sym u.calls) g.performed));
+      tells = subst (λ (es : List Entry). HubTells es (given ++ n ∷ []) old.seen new.seen) (sym before-is) (tells-gave s0.entries given n old.seen mid.seen new.seen g.tells u.gave);
+      lines_first = lines-before-it;
       started = λ w. u.started w ∙ g.started w ∙ ap (was_started w) (sym before-is);
       within = omega (arith, u.count_is, ap length u.entries, length-append s0.entries more);
       in_time = in-time proper on t.settings;
@@ -173,21 +191,19 @@ module _ (given : List News) (n : News) (s0 s1 : SessionSeen) (old mid new : Hub
 
 -- the tail
 
-module _ (given : List News) (s : SessionSeen) (old mid new : HubScene) (g : Going given s old mid) (starts_same : new.starts ≡ mid.starts) (calls_same : new.calls ≡ mid.calls) (given_same : new.given ≡ mid.given) (marks_same : (w : ℕ) → new.marks w ≡ mid.marks w)
+module _ (given : List News) (s : SessionSeen) (old mid new : HubScene) (ms : List HubScene) (g : Going given s old mid ms) (seen_same : new.seen ≡ mid.seen) (marks_same : (w : ℕ) → new.marks w ≡ mid.marks w)
     (j : Journal) (settings_are : j.settings ≡ s.settings) (entries_are : j.entries.items ≡ s.entries) where
   tail-same : tail_text j ≡ run_tail s.settings s.entries
   tail-same = tail-is j s.settings s.entries settings_are entries_are
 
-  performed-same : Performs s.entries old.starts new.starts old.calls new.calls
-  performed-same =
-      subst (λ (x : Option (List Entry)). Performs s.entries old.starts x old.calls new.calls) (sym starts_same)
-      (subst (λ (x : Option (List Entry)). Performs s.entries old.starts mid.starts old.calls x) (sym calls_same) g.performed)
+  tells-same : HubTells s.entries given old.seen new.seen
+  tells-same = subst (λ (x : Option HubSeen). HubTells s.entries given old.seen x) (sym seen_same) g.tells
 
-  pub finished : is_over (state_of s).books ≡ true → ShowsEnd true (tail_text j) mid.sunk new.sunk → Finished given s old new
+  pub finished : is_over (state_of s).books ≡ true → ShowsEnd true (tail_text j) mid.sunk new.sunk → Finished given s old new ms
   finished over shown = record {
     stands = g.stands;
-    gave = given_same ∙ g.gave;
-    performed = performed-same;
+    tells = tells-same;
+    lines_first = g.lines_first;
     over = over;
     in_time = g.in_time;
     shows = shows-end (run_lines s.settings s.entries) (run_tail s.settings s.entries) old.sunk mid.sunk new.sunk g.shows (subst (λ (l : List ℕ). ShowsEnd true l mid.sunk new.sunk) tail-same shown);
@@ -199,13 +215,13 @@ module _ (given : List News) (s : SessionSeen) (old mid new : HubScene) (g : Goi
   tail-breaks count all (inl p) = inl (mid.sunk, subst (λ (es : List Entry). ShowsSome (run_lines s.settings es) old.sunk mid.sunk) (sym all) g.shows, subst (λ (l : List ℕ). TookPart l mid.sunk new.sunk) tail-same p)
   tail-breaks count all (inr p) = inr (shows-all (run_lines s.settings s.entries) (run_tail s.settings s.entries) old.sunk mid.sunk new.sunk g.shows (subst (λ (l : List ℕ). Printed l mid.sunk new.sunk) tail-same p))
 
-  pub unfinished : is_over (state_of s).books ≡ true → IsProper s.settings [] → (count : ℕ) → count ≡ length s.entries → ShowsEnd false (tail_text j) mid.sunk new.sunk → Stopped given count s old new
+  pub unfinished : is_over (state_of s).books ≡ true → IsProper s.settings [] → (count : ℕ) → count ≡ length s.entries → ShowsEnd false (tail_text j) mid.sunk new.sunk → Stopped given count s old new ms
   unfinished over proper count counted shown =
       let all : take count s.entries ≡ s.entries = take_all count s.entries (omega (arith, counted)) in
       record {
         stands = g.stands;
-        gave = given_same ∙ g.gave;
-        performed = subst (λ (es : List Entry). Performs es old.starts new.starts old.calls new.calls) (sym all) performed-same;
+        tells = subst (λ (es : List Entry). HubTells es given old.seen new.seen) (sym all) tells-same;
+        lines_first = lines-all s.settings old ms (take count s.entries) given (all ∙ g.stands.entries) g.lines_first;
         started = λ w. ap (λ (m : Marks). m.started) (marks_same w) ∙ g.started w ∙ ap (was_started w) (sym all);
         within = omega (arith, counted);
         in_time = g.in_time;
@@ -223,19 +239,19 @@ module _ (given : List News) (s : SessionSeen) (old mid new : HubScene) (g : Goi
 
 -- the beginning
 
-pub going-first : (s : SessionSeen) (slots : ℕ) (old new : HubScene) → s.settings.workers ≤ slots → StandsForNews [] s → HasNoMarks old.marks → Performs s.entries old.starts new.starts old.calls new.calls
-    → ((w : ℕ) → new.marks w ≡ marks_after s.entries old.marks w) → new.given ≡ old.given → new.sunk ≡ old.sunk → Going [] s old new
-going-first s slots old new l st fresh performed marks given sunk =
+pub going-first : (s : SessionSeen) (slots : ℕ) (old new : HubScene) (ms : List HubScene) → s.settings.workers ≤ slots → StandsForNews [] s → HasNoMarks old.marks → Performs s.entries old.seen new.seen
+    → ((w : ℕ) → new.marks w ≡ marks_after s.entries old.marks w) → new.sunk ≡ old.sunk → Going [] s old new ms
+going-first s slots old new ms l st fresh performed marks sunk =
     let b = starts s.settings slots old.marks l fresh in
     let m : new.marks ≡ marks_after (first_starts s.settings) old.marks = fun_ext marks ∙ ap (λ (es : List Entry). marks_after es old.marks) st.entries in
     record {
       stands = st;
-      gave = subst (λ (x : Option (List News)). AddsAll [] old.given x) (sym given) (adds-none old.given);
-      performed = performed;
+      tells = tells-first s.entries old.seen new.seen performed;
       agrees = subst (λ (es : List Entry). Agrees (Rattle.xd_run.specs.State.state_at s.settings es).books new.marks) (sym st.entries) (subst (λ (f : ℕ → Marks). Agrees (after_starts s.settings).books f) (sym m)
           (record { started = b.agrees.started; killed = b.agrees.killed; ended = b.agrees.ended; ready = b.agrees.ready }));
       started = λ w. ap (λ (x : Marks). x.started) (marks w) ∙ started-by s.entries old.marks w ∙ ap (λ (x : Marks). x.started || was_started w s.entries) (fresh w);
       in_time = in-time-none s.settings;
+      lines_first = lines-none s.settings old ms;
       shows = inl (ap (run_lines s.settings) st.entries ∙ first-lines s.settings, sunk);
     }
 
@@ -244,34 +260,35 @@ first-possible s slots marks es l st fresh is = ap (all_possible slots marks) (i
 
 -- someone was started
 
-pub someone-first : (s : SessionSeen) (old new : HubScene) → IsProper s.settings [] → StandsForNews [] s → Going [] s old new → (w : ℕ) × ((new.marks w).started ≡ true)
-someone-first s old new p st g = (0, g.started 0 ∙ ap (was_started 0) st.entries ∙ by_count s.settings.workers p.some_worker)
+pub someone-first : (s : SessionSeen) (old new : HubScene) (ms : List HubScene) → IsProper s.settings [] → StandsForNews [] s → Going [] s old new ms → (w : ℕ) × ((new.marks w).started ≡ true)
+someone-first s old new ms p st g = (0, g.started 0 ∙ ap (was_started 0) st.entries ∙ by_count s.settings.workers p.some_worker)
   where
     by_count : (k : ℕ) → Rattle.std.specs.Prelude.nat_le 1 k ≡ true → was_started 0 (starts_from 0 k) ≡ true
     by_count zero h = absurd (differ h)
     by_count (suc k) h = refl
 
-pub someone-still : (n : News) (s0 s1 : SessionSeen) (mid new : HubScene) → TakesNews n Whole s0 s1 mid new → (w : ℕ) × ((mid.marks w).started ≡ true) → (w : ℕ) × ((new.marks w).started ≡ true)
-someone-still n s0 s1 mid new t w = (w.0, t.told.1.started w.0 ∙ ap (λ (b : Bool). b || was_started w.0 (t.told.0)) w.1)
+pub someone-still : (n : News) (s0 s1 : SessionSeen) (mid new : HubScene) (ms after : List HubScene) → TakesNews n Whole s0 s1 mid new ms after → (w : ℕ) × ((mid.marks w).started ≡ true) → (w : ℕ) × ((new.marks w).started ≡ true)
+someone-still n s0 s1 mid new ms after t w = (w.0, t.told.1.started w.0 ∙ ap (λ (b : Bool). b || was_started w.0 (t.told.0)) w.1)
 
 -- what the last step of the loop comes to
 
-pub begins : (s : SessionSeen) (slots : ℕ) (old new : HubScene) (es : List Entry) → es ≡ s.entries → s.settings.workers ≤ slots → StandsForNews [] s → HasNoMarks old.marks → Performs es old.starts new.starts old.calls new.calls
-    → ((w : ℕ) → new.marks w ≡ marks_after es old.marks w) → new.given ≡ old.given → new.sunk ≡ old.sunk → Going [] s old new
-begins s slots old new es is l st fresh performed marks given sunk =
-    going-first s slots old new l st fresh (subst (λ (x : List Entry). Performs x old.starts new.starts old.calls new.calls) is performed) (λ w. marks w ∙ ap (λ (x : List Entry). marks_after x old.marks w) is) given sunk
+pub begins : (s : SessionSeen) (slots : ℕ) (old new : HubScene) (ms : List HubScene) (es : List Entry) → es ≡ s.entries → s.settings.workers ≤ slots → StandsForNews [] s → HasNoMarks old.marks → Performs es old.seen new.seen
+    → ((w : ℕ) → new.marks w ≡ marks_after es old.marks w) → new.sunk ≡ old.sunk → Going [] s old new ms
+begins s slots old new ms es is l st fresh performed marks sunk =
+    going-first s slots old new ms l st fresh (subst (λ (x : List Entry). Performs x old.seen new.seen) is performed) (λ w. marks w ∙ ap (λ (x : List Entry). marks_after x old.marks w) is) sunk
 
-pub over-ends : (given : List News) (s : SessionSeen) (old mid new : HubScene) (g : Going given s old mid) (starts_same : new.starts ≡ mid.starts) (calls_same : new.calls ≡ mid.calls) (given_same : new.given ≡ mid.given) (marks_same : (w : ℕ) → new.marks w ≡ mid.marks w)
-    (j : Journal) → j.settings ≡ s.settings → j.entries.items ≡ s.entries → is_over (state_of s).books ≡ true → IsProper s.settings [] → (written : Written) → EndsTail written j mid.sunk new.sunk → EndsRun written s old new
-over-ends given s old mid new g a b c d j e f over p Whole t = (given, finished given s old mid new g a b c d j e f over t)
-over-ends given s old mid new g a b c d j e f over p (Broken count) t = (given, unfinished given s old mid new g a b c d j e f over p count (t.0 ∙ ap length f) t.1)
+pub over-ends : (given : List News) (s : SessionSeen) (old mid new : HubScene) (ms : List HubScene) (g : Going given s old mid ms) (seen_same : new.seen ≡ mid.seen) (marks_same : (w : ℕ) → new.marks w ≡ mid.marks w)
+    (j : Journal) → j.settings ≡ s.settings → j.entries.items ≡ s.entries → is_over (state_of s).books ≡ true → IsProper s.settings [] → (written : Written) → EndsTail written j mid.sunk new.sunk → EndsRun written s old new ms
+over-ends given s old mid new ms g a b j e f over p Whole t = (given, finished given s old mid new ms g a b j e f over t)
+over-ends given s old mid new ms g a b j e f over p (Broken count) t = (given, unfinished given s old mid new ms g a b j e f over p count (t.0 ∙ ap length f) t.1)
 
-pub stop-by : (given : List News) (n : News) (s0 s1 : SessionSeen) (old mid new : HubScene) → Going given s0 old mid → IsProper s0.settings [] → is_over (state_of s0).books ≡ false → (written : Written) (count : ℕ) → written ≡ Broken count → TakesNews n written s0 s1 mid new → (all : List News) × Stopped all count s1 old new
-stop-by given n s0 s1 old mid new g p on written count is t = (given ++ n ∷ [], going-stop given n s0 s1 old mid new g p on count (subst (λ (o : Written). TakesNews n o s0 s1 mid new) is t))
+pub stop-by : (given : List News) (n : News) (s0 s1 : SessionSeen) (old mid new : HubScene) (ms after : List HubScene) → Going given s0 old mid ms → IsProper s0.settings [] → is_over (state_of s0).books ≡ false → (written : Written) (count : ℕ) → written ≡ Broken count → TakesNews n written s0 s1 mid new ms after
+    → (all : List News) × Stopped all count s1 old new after
+stop-by given n s0 s1 old mid new ms after g p on written count is t = (given ++ n ∷ [], going-stop given n s0 s1 old mid new ms after g p on count (subst (λ (o : Written). TakesNews n o s0 s1 mid new ms after) is t))
 
 pub whole-of : (o : Written) → ((x : ℕ) → o ≡ Broken x → ⊥) → o ≡ Whole
 whole-of Whole h = refl
 whole-of (Broken x) h = absurd (h x refl)
 
-pub takes-whole : (n : News) (s0 s1 : SessionSeen) (mid new : HubScene) (written : Written) → ((x : ℕ) → written ≡ Broken x → ⊥) → TakesNews n written s0 s1 mid new → TakesNews n Whole s0 s1 mid new
-takes-whole n s0 s1 mid new written h t = subst (λ (o : Written). TakesNews n o s0 s1 mid new) (whole-of written h) t
+pub takes-whole : (n : News) (s0 s1 : SessionSeen) (mid new : HubScene) (ms after : List HubScene) (written : Written) → ((x : ℕ) → written ≡ Broken x → ⊥) → TakesNews n written s0 s1 mid new ms after → TakesNews n Whole s0 s1 mid new ms after
+takes-whole n s0 s1 mid new ms after written h t = subst (λ (o : Written). TakesNews n o s0 s1 mid new ms after) (whole-of written h) t

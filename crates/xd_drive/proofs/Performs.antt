@@ -5,28 +5,51 @@ use Rattle.std.proofs.Math.Path.{fun_ext}
 use Rattle.std.proofs.lemmas.List.{append-nil, take-append-drop, take_more}
 use Rattle.std.proofs.lemmas.List.Elements.{filter-append}
 use Rattle.xd_journal.specs.declared.entry.Entry.{Entry}
+use Rattle.xd_journal.specs.declared.news.News.{News}
 use Rattle.xd_run_laws.proofs.Logic.{split-and}
 use Rattle.xd_drive.specs.Marks.{Marks}
-use Rattle.xd_drive.specs.Performing.{AddsAll, Performs, marks_after, marks_after_entry, all_possible, calls_in, is_call, is_start, possible, starts_in}
+use Rattle.xd_drive.specs.Calls.{calls_in, is_call}
+use Rattle.xd_drive.specs.Performing.{marks_after, marks_after_entry, all_possible, possible}
+use Rattle.xd_drive.specs.Seen.{GaveNews, HubSeen, Performs, HubTells, with_calls, with_more, after_one_given}
 
--- lists that are told
+-- what a hub tells
 
-pub adds-none : {A : Type 0} (old : Option (List A)) → AddsAll [] old old
-adds-none None = refl
-adds-none (Some l) = ap Some (sym (append-nil l))
+abbrev seen_of : List Entry → List News → HubSeen
+seen_of calls given = record { calls = calls; given = given }
 
-pub adds-more : {A : Type 0} (xs ys : List A) (old mid new : Option (List A)) → AddsAll xs old mid → AddsAll ys mid new → AddsAll (xs ++ ys) old new
-adds-more xs ys None mid new a b = b ∙ ap (option_map (λ l. l ++ ys)) a
-adds-more xs ys (Some l) mid new a b = b ∙ ap (option_map (λ l. l ++ ys)) a ∙ ap Some (append_assoc l xs ys)
+module _ (es fs : List Entry) where
+  calls-join : (l : List Entry) → (l ++ calls_in es) ++ calls_in fs ≡ l ++ calls_in (es ++ fs)
+  calls-join l = append_assoc l (calls_in es) (calls_in fs) ∙ ap (λ (k : List Entry). l ++ k) (sym (filter-append is_call es fs))
 
-pub performs-none : (starts calls : Option (List Entry)) → Performs [] starts starts calls calls
-performs-none starts calls = record { starts = adds-none starts; calls = adds-none calls }
+  pub performs-more : (old mid new : Option HubSeen) → Performs es old mid → Performs fs mid new → Performs (es ++ fs) old new
+  performs-more None mid new a b = b ∙ ap (option_map (with_calls fs)) a
+  performs-more (Some s) mid new a b = b ∙ ap (option_map (with_calls fs)) a ∙ ap (λ (l : List Entry). Some (seen_of l s.given)) (calls-join s.calls)
 
-pub performs-more : (xs ys : List Entry) (s0 s1 s2 c0 c1 c2 : Option (List Entry)) → Performs xs s0 s1 c0 c1 → Performs ys s1 s2 c1 c2 → Performs (xs ++ ys) s0 s2 c0 c2
-performs-more xs ys s0 s1 s2 c0 c1 c2 a b = record {
-  starts = subst (λ (l : List Entry). AddsAll l s0 s2) (sym (filter-append is_start xs ys)) (adds-more (starts_in xs) (starts_in ys) s0 s1 s2 a.starts b.starts);
-  calls = subst (λ (l : List Entry). AddsAll l c0 c2) (sym (filter-append is_call xs ys)) (adds-more (calls_in xs) (calls_in ys) c0 c1 c2 a.calls b.calls);
-}
+  pub tells-more : (ns ms : List News) (old mid new : Option HubSeen) → HubTells es ns old mid → HubTells fs ms mid new → HubTells (es ++ fs) (ns ++ ms) old new
+  tells-more ns ms None mid new a b = b ∙ ap (option_map (with_more fs ms)) a
+  tells-more ns ms (Some s) mid new a b =
+      b ∙ ap (option_map (with_more fs ms)) a ∙ ap (λ (l : List Entry). Some (seen_of l ((s.given ++ ns) ++ ms))) (calls-join s.calls)
+      ∙ ap (λ (g : List News). Some (seen_of (s.calls ++ calls_in (es ++ fs)) g)) (append_assoc s.given ns ms)
+
+  pub tells-performed : (ns : List News) (old mid new : Option HubSeen) → HubTells es ns old mid → Performs fs mid new → HubTells (es ++ fs) ns old new
+  tells-performed ns None mid new a b = b ∙ ap (option_map (with_calls fs)) a
+  tells-performed ns (Some s) mid new a b = b ∙ ap (option_map (with_calls fs)) a ∙ ap (λ (l : List Entry). Some (seen_of l (s.given ++ ns))) (calls-join s.calls)
+
+pub performs-none : (old : Option HubSeen) → Performs [] old old
+performs-none None = refl
+performs-none (Some s) = ap (λ (l : List Entry). Some (seen_of l s.given)) (sym (append-nil s.calls))
+
+pub tells-first : (es : List Entry) (old new : Option HubSeen) → Performs es old new → HubTells es [] old new
+tells-first es None new a = a
+tells-first es (Some s) new a = a ∙ ap (λ (g : List News). Some (seen_of (s.calls ++ calls_in es) g)) (sym (append-nil s.given))
+
+pub tells-gave : (es : List Entry) (ns : List News) (n : News) (old mid new : Option HubSeen) → HubTells es ns old mid → GaveNews n mid new → HubTells es (ns ++ n ∷ []) old new
+tells-gave es ns n None mid new a b = b ∙ ap (option_map (after_one_given n)) a
+tells-gave es ns n (Some s) mid new a b = b ∙ ap (option_map (after_one_given n)) a ∙ ap (λ (g : List News). Some (seen_of (s.calls ++ calls_in es) g)) (append_assoc s.given ns (n ∷ []))
+
+pub gave-performed : (n : News) (es : List Entry) (old mid new : Option HubSeen) → GaveNews n old mid → Performs es mid new → HubTells es (n ∷ []) old new
+gave-performed n es None mid new a b = b ∙ ap (option_map (with_calls es)) a
+gave-performed n es (Some s) mid new a b = b ∙ ap (option_map (with_calls es)) a
 
 -- marks
 
@@ -62,8 +85,8 @@ module _ (es : List Entry) (i : ℕ) (e : Entry) (l : i < length es) (is : e ≡
       following w ∙ ap (λ (f : ℕ → Marks). marks_after_entry e f w) (fun_ext before)
       ∙ sym (ap (λ (xs : List Entry). marks_after xs a w) next_entry ∙ ap (λ (f : ℕ → Marks). f w) (after_all-join (take i es) (e ∷ []) a))
 
-  pub performs-next : (s0 s1 s2 c0 c1 c2 : Option (List Entry)) → Performs (take i es) s0 s1 c0 c1 → Performs (e ∷ []) s1 s2 c1 c2 → Performs (take (i + 1) es) s0 s2 c0 c2
-  performs-next s0 s1 s2 c0 c1 c2 a b = subst (λ (xs : List Entry). Performs xs s0 s2 c0 c2) (sym next_entry) (performs-more (take i es) (e ∷ []) s0 s1 s2 c0 c1 c2 a b)
+  pub performs-next : (old mid new : Option HubSeen) → Performs (take i es) old mid → Performs (e ∷ []) mid new → Performs (take (i + 1) es) old new
+  performs-next old mid new a b = subst (λ (xs : List Entry). Performs xs old new) (sym next_entry) (performs-more (take i es) (e ∷ []) old mid new a b)
 
 -- those alone that pass a test
 module _ (f : Entry → Bool) (es : List Entry) (i : ℕ) (e : Entry) (l : i < length es) (is : e ≡ get_or es i e) where
@@ -83,8 +106,8 @@ module _ (f : Entry → Bool) (es : List Entry) (i : ℕ) (e : Entry) (l : i < l
       following w ∙ ap (λ (g : ℕ → Marks). marks_after (filter f (e ∷ [])) g w) (fun_ext before)
       ∙ sym (ap (λ (xs : List Entry). marks_after xs a w) kept_next ∙ ap (λ (g : ℕ → Marks). g w) (after_all-join (filter f (take i es)) (filter f (e ∷ [])) a))
 
-  pub kept-performs : (s0 s1 s2 c0 c1 c2 : Option (List Entry)) → Performs (filter f (take i es)) s0 s1 c0 c1 → Performs (filter f (e ∷ [])) s1 s2 c1 c2 → Performs (filter f (take (i + 1) es)) s0 s2 c0 c2
-  kept-performs s0 s1 s2 c0 c1 c2 a b = subst (λ (xs : List Entry). Performs xs s0 s2 c0 c2) (sym kept_next) (performs-more (filter f (take i es)) (filter f (e ∷ [])) s0 s1 s2 c0 c1 c2 a b)
+  pub kept-performs : (old mid new : Option HubSeen) → Performs (filter f (take i es)) old mid → Performs (filter f (e ∷ [])) mid new → Performs (filter f (take (i + 1) es)) old new
+  kept-performs old mid new a b = subst (λ (xs : List Entry). Performs xs old new) (sym kept_next) (performs-more (filter f (take i es)) (filter f (e ∷ [])) old mid new a b)
 
 -- one entry that passes, and one that does not
 

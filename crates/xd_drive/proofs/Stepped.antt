@@ -24,15 +24,17 @@ use Rattle.xd_session.specs.Stands.{SessionSeen, StandsForNews, state_of}
 use Rattle.xd_run_laws.proofs.Logic.{split-and, split-or}
 use Rattle.xd_drive.specs.declared.written.Written.TheVariants.{Whole, Broken}
 use Rattle.xd_drive.specs.Agrees.{Agrees}
-use Rattle.xd_drive.specs.Going.{HubScene, TakesNews, TellsEntries, added_by}
+use Rattle.xd_drive.specs.Going.{TakesNews, TellsEntries, added_by}
 use Rattle.xd_journal.specs.Said.{is_end}
 use Rattle.xd_drive.specs.Marks.{Marks, marked_heard}
-use Rattle.xd_drive.specs.Performing.{AddsAll, Performs, marks_after, marks_after_entry, all_possible, entries_between, is_start_of, was_started}
+use Rattle.xd_drive.specs.Moments.{NotesTurn}
+use Rattle.xd_drive.specs.Seen.{GaveNews, HubScene, HubSeen, Performs}
+use Rattle.xd_drive.specs.Performing.{marks_after, marks_after_entry, all_possible, entries_between, is_start_of, was_started}
 use Rattle.xd_report.specs.Printing.{ShowsLines}
 use Rattle.xd_drive.specs.Taken.{taken_with}
 use Rattle.xd_drive.proofs.Follow.{follows-same}
 use Rattle.xd_drive.proofs.Kills.{ending-possible, kills-go, possible-both}
-use Rattle.xd_drive.proofs.Performs.{all_possible-same, performs-none}
+use Rattle.xd_drive.proofs.Performs.{all_possible-same, gave-performed, performs-none}
 use Rattle.xd_drive.proofs.Runs.{in_run, run-more}
 use Rattle.xd_drive.proofs.Turns.{bounded, entries-added, heard_by, step-agrees, step-possible}
 
@@ -81,8 +83,18 @@ module _ (s0 s1 : SessionSeen) (taken : List News) (n : News) (st0 : StandsForNe
     follows-following r f = follows-same r j.settings s1.settings (take to j.entries.items) s1.entries settings_are
         (ap (λ (k : ℕ). take k j.entries.items) last ∙ ap (take (length s1.entries)) entries_are ∙ take_all (length s1.entries) s1.entries (omega arith)) f
 
-pub tells-as : (shown : Bool) (es fs : List Entry) (a b : List ℕ) (old new : HubScene) → es ≡ fs → a ≡ b → TellsEntries shown es a old new → TellsEntries shown fs b old new
-tells-as shown es fs a b old new e l t = subst (λ (x : List Entry). TellsEntries shown x b old new) e (subst (λ (x : List ℕ). TellsEntries shown es x old new) l t)
+pub tells-as : (shown : Bool) (es fs : List Entry) (a b : List ℕ) (old new : HubScene) (ms after : List HubScene) → es ≡ fs → a ≡ b → TellsEntries shown es a old new ms after → TellsEntries shown fs b old new ms after
+tells-as shown es fs a b old new ms after e l t = subst (λ (x : List Entry). TellsEntries shown x b old new ms after) e (subst (λ (x : List ℕ). TellsEntries shown es x old new ms after) l t)
+
+-- lines that were printed, a moment that was noted, and entries that were performed
+pub tells-turn : (shown : Bool) → shown ≡ true → (es fs : List Entry) → fs ≡ es → (lines : List ℕ) (old new : HubScene) (ms after : List HubScene) → Performs fs old.seen new.seen → ((w : ℕ) → new.marks w ≡ marks_after fs old.marks w)
+    → NotesTurn true old new ms after → ShowsLines shown lines old.sunk new.sunk → TellsEntries true es lines old new ms after
+tells-turn shown is es fs same lines old new ms after performed marks notes shows = record {
+  performed = subst (λ (l : List Entry). Performs l old.seen new.seen) same performed;
+  marks = λ w. marks w ∙ ap (λ (l : List Entry). marks_after l old.marks w) same;
+  notes = notes;
+  shows = subst (λ (b : Bool). ShowsLines b lines old.sunk new.sunk) is shows;
+}
 
 -- the news of a worker that is not active
 
@@ -124,13 +136,12 @@ started-by (e ∷ es) marks w = started-by es (marks_after_entry e marks) w ∙ 
     one (Kill v) = or-none (marks w).started
     one _ = or-none (marks w).started
 
-adds-nothing : {A : Type 0} (old new : Option (List A)) → AddsAll [] old new → new ≡ old
-adds-nothing None new h = h
-adds-nothing (Some l) new h = h ∙ ap Some (append-nil l)
+nothing-performed : (old new : Option HubSeen) → Performs [] old new → new ≡ old
+nothing-performed old new h = h ∙ sym (performs-none old)
 
 -- a piece of news that was given
-module _ (s : SessionSeen) (proper : IsProper s.settings []) (n : News) (old mid : HubScene)
-    (gave : AddsAll (n ∷ []) old.given mid.given) (heard : (w : ℕ) → mid.marks w ≡ marked_heard n w (old.marks w)) (starts : mid.starts ≡ old.starts) (calls : mid.calls ≡ old.calls) (sunk : mid.sunk ≡ old.sunk)
+module _ (s : SessionSeen) (proper : IsProper s.settings []) (n : News) (old mid : HubScene) (ms after : List HubScene)
+    (gave : GaveNews n old.seen mid.seen) (heard : (w : ℕ) → mid.marks w ≡ marked_heard n w (old.marks w)) (sunk : mid.sunk ≡ old.sunk)
     (agrees : Agrees (state_of s).books old.marks) (known : (old.marks n.worker).started ≡ true) where
   marks-are : mid.marks ≡ (λ w. marked_heard n w (old.marks w))
   marks-are = fun_ext heard
@@ -139,20 +150,23 @@ module _ (s : SessionSeen) (proper : IsProper s.settings []) (n : News) (old mid
   taken-is b taken st h = ap (λ (q : Bool). if q then taken ++ n ∷ [] else taken) (ap (λ (x : State). is_active n.worker x.books) (sym (state-is s taken proper st)) ∙ h)
 
   -- it is dropped
-  pub dropped : is_active n.worker (state_of s).books ≡ false → (m : News) × TakesNews m Whole s s old mid
-  dropped off = (
+  pub dropped : is_active n.worker (state_of s).books ≡ false → after ≡ ms ++ mid ∷ [] → (m : News) × TakesNews m Whole s s old mid ms after
+  dropped off noted = (
     n,
     record {
-      gave = gave;
       settings = refl;
       stands = λ taken st. subst (λ (t : List News). StandsForNews t s) (sym (taken-is false taken st off)) st;
       told = (
         [],
         record {
           entries = sym (append-nil s.entries);
-          performed = subst (λ (x : Option (List Entry)). Performs [] old.starts x old.calls mid.calls) (sym starts) (subst (λ (x : Option (List Entry)). Performs [] old.starts old.starts old.calls x) (sym calls) (performs-none old.starts old.calls));
+          tells = gave-performed n [] old.seen mid.seen mid.seen gave (performs-none mid.seen);
           agrees = subst (λ (f : ℕ → Marks). Agrees (state_of s).books f) (sym marks-are) (agrees-inactive (state_of s).books old.marks n (sym (agrees.started n.worker) ∙ known) off agrees);
           started = λ w. ap (λ (x : Marks). x.started) (heard w) ∙ or-none (old.marks w).started;
+          between = mid;
+          notes = noted;
+          gave = gave;
+          printed = refl;
           shows = inl (refl, sunk);
         },
       );
@@ -199,32 +213,34 @@ module _ (s : SessionSeen) (proper : IsProper s.settings []) (n : News) (old mid
           (ending-possible s1.settings (taken ++ n ∷ []) slots (state_of s1).books (marks_after es mid.marks) p1 (ap (λ (x : State). x.books) (state-is s1 (taken ++ n ∷ []) p1 (stands taken st)))
           (subst (λ (f : ℕ → Marks). Agrees (state_of s1).books (marks_after es f)) (sym marks-are) following))
 
-      pub told : TellsEntries true es lines mid new → (m : News) × TakesNews m Whole s s1 old new
+      pub told : TellsEntries true es lines mid new ms after → (m : News) × TakesNews m Whole s s1 old new ms after
       told t = (
         n,
         record {
-          gave = t.given ∙ gave;
           settings = same;
           stands = stands-with;
           told = (
             es,
             record {
               entries = entries-more s s1 taken n st (stands taken st) same;
-              performed = subst (λ (x : Option (List Entry)). Performs es x new.starts old.calls new.calls) starts (subst (λ (x : Option (List Entry)). Performs es mid.starts new.starts x new.calls) calls t.performed);
+              tells = gave-performed n es old.seen mid.seen new.seen gave t.performed;
               agrees = subst (λ (f : ℕ → Marks). Agrees (state_of s1).books f) (sym (fun_ext t.marks ∙ ap (marks_after es) marks-are)) following;
               started = λ w. ap (λ (x : Marks). x.started) (t.marks w) ∙ started-by es mid.marks w ∙ ap (λ (x : Marks). x.started || was_started w es) (heard w);
+              between = t.notes.0;
+              notes = t.notes.1;
+              gave = t.notes.2 ∙ gave;
+              printed = t.notes.3;
               shows = subst (λ (x : Option Sunk). ShowsLines true lines x new.sunk) sunk t.shows;
             },
           );
         },
       )
 
-      pub untold : (count : ℕ) → count ≡ length s.entries → TellsEntries false es lines mid new → (m : News) × TakesNews m (Broken count) s s1 old new
+      pub untold : (count : ℕ) → count ≡ length s.entries → TellsEntries false es lines mid new ms after → (m : News) × TakesNews m (Broken count) s s1 old new ms after
       untold count counted t =
           let marks_same : (w : ℕ) → new.marks w ≡ marked_heard n w (old.marks w) = λ w. t.marks w ∙ heard w in (
             n,
             record {
-              gave = t.given ∙ gave;
               settings = same;
               stands = stands-with;
               told = (
@@ -233,10 +249,10 @@ module _ (s : SessionSeen) (proper : IsProper s.settings []) (n : News) (old mid
                   entries = entries-more s s1 taken n st (stands taken st) same;
                   count_is = counted;
                   active = on;
-                  starts = adds-nothing mid.starts new.starts t.performed.starts ∙ starts;
-                  calls = adds-nothing mid.calls new.calls t.performed.calls ∙ calls;
+                  gave = nothing-performed mid.seen new.seen t.performed ∙ gave;
                   started = λ w. ap (λ (x : Marks). x.started) (marks_same w);
                   kills = λ done f k. kills-go done slots k (es ++ ending true (state_of s1).books) mid.marks new.marks f (λ w h. ap (λ (x : Marks). x.killed) (t.marks w) ∙ h) rest-possible;
+                  notes = t.notes;
                   shows = subst (λ (x : Option Sunk). TookPart lines x new.sunk) sunk t.shows;
                 },
               );

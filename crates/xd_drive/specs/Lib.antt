@@ -8,5 +8,6 @@ pub mod Listed
 pub mod Marks
 pub mod Moments
 pub mod Performing
+pub mod Seen
 pub mod Taken
 pub mod inner

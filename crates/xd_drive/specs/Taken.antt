@@ -5,7 +5,7 @@ use Rattle.xd_journal.specs.declared.settings.Settings.{Settings}
 use Rattle.xd_journal.specs.declared.news.News.{News}
 use Rattle.xd_run.specs.Histories.{is_over}
 use Rattle.xd_run.specs.Workers.{is_active}
-use Rattle.xd_session.specs.History.{run_of}
+use Rattle.xd_session.specs.History.{Run, run_of}
 
 -- after these news a further one is taken where its worker is active
 abbrev pub taken_with : Settings → List News → News → List News
@@ -16,7 +16,11 @@ taken_with settings taken n = if is_active n.worker (run_of settings taken).stat
 abbrev pub taken_of : Settings → List News → List News
 taken_of settings given = fold (taken_with settings) [] given
 
+-- the run that the news make, where those of workers that are not active are dropped
+abbrev pub run_given : Settings → List News → Run
+run_given settings given = run_of settings (taken_of settings given)
+
 -- None of these news was asked for where the run was over: after the news before it the run was not.
 -- Example: the last worker finishes: that its link ends then is not waited for.
 abbrev pub AreInTime : Settings → List News → Type 0
-AreInTime settings given = (before : List News) (n : News) (after : List News) → given ≡ before ++ n ∷ after → is_over (run_of settings (taken_of settings before)).state.books ≡ false
+AreInTime settings given = (before : List News) (n : News) (after : List News) → given ≡ before ++ n ∷ after → is_over (run_given settings before).state.books ≡ false

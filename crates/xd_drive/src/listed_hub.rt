@@ -2,7 +2,7 @@
 ghost use Rattle.std.specs.Prelude.{◌≡◌, ◌<◌, ◌≤◌, ◌+◌, ◌++◌, ◌∷◌, [], ℕ, Some, true, false, option_to_list, slice_index, vec_len, vec_capacity, IfOk, IfSome, IsNone, OnOk};
 ghost use Rattle.xd_journal.specs.declared.entry.Entry.TheVariants.{Start, Kill};
 ghost use Rattle.xd_drive.specs.Calls.{is_order};
-ghost use Rattle.xd_drive.specs.Listed.{GivesListed, from_started, is_listed, marks_by, may_give, others_of, place_of_turn, refusal_of, starts_of, unkilled, was_killed};
+ghost use Rattle.xd_drive.specs.Listed.{GivesListed, from_started, is_listed, marks_by, may_give, place_of_turn, refusal_of, unkilled, was_killed};
 ghost use Rattle.xd_journal.specs.Said.{is_breach};
 ghost use Rattle.xd_drive.specs.Marks.{may_tell, no_marks};
 
@@ -141,15 +141,11 @@ impl Hub for ListedHub {
 
     ghost made = { λ h. tt };
 
-    ghost slots = { λ h. 32 };
+    ghost slots = { λ m. 32 };
 
     ghost marks = { λ h w. marks_by h.started h.calls.items h.given.items w };
 
-    ghost starts = { λ h. Some (starts_of h.calls.items) };
-
-    ghost calls = { λ h. Some (others_of h.calls.items) };
-
-    ghost given = { λ h. Some h.given.items };
+    ghost seen = { λ h. Some (record { calls = h.calls.items; given = h.given.items }) };
 
     fn start(&mut self, _alloc: Global, worker: u32, slot: u32) -> Result<(), OutOfMemory>
         requires new { is_listed worker self.old.started ≡ false }
@@ -159,7 +155,7 @@ impl Hub for ListedHub {
             (self.new.calls.items ≡ self.old.calls.items ++ Start worker slot ∷ []) }
         ensures news { OnOk result
             (self.new.news.items ≡ refusal_of worker self.old.refused ++ self.old.news.items) }
-        ensures given { OnOk result (self.new.given.items ≡ self.old.given.items) }
+        ensures given { OnOk result (self.new.given ≡ self.old.given) }
         ensures refused { self.new.refused ≡ self.old.refused }
         ensures turn { self.new.turn ≡ self.old.turn }
     {
@@ -179,7 +175,7 @@ impl Hub for ListedHub {
             (self.new.calls.items ≡ self.old.calls.items ++ order.now ∷ []) }
         ensures news { self.new.news ≡ self.old.news }
         ensures started { OnOk result (self.new.started ≡ self.old.started) }
-        ensures given { OnOk result (self.new.given.items ≡ self.old.given.items) }
+        ensures given { OnOk result (self.new.given ≡ self.old.given) }
         ensures refused { self.new.refused ≡ self.old.refused }
         ensures turn { self.new.turn ≡ self.old.turn }
     {
@@ -195,7 +191,7 @@ impl Hub for ListedHub {
         ensures called { self.new.calls.items ≡ self.old.calls.items ++ Kill worker ∷ [] }
         ensures news { self.new.news ≡ self.old.news }
         ensures started { self.new.started ≡ self.old.started }
-        ensures given { self.new.given.items ≡ self.old.given.items }
+        ensures given { self.new.given ≡ self.old.given }
         ensures refused { self.new.refused ≡ self.old.refused }
         ensures turn { self.new.turn ≡ self.old.turn }
     {

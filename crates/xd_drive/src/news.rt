@@ -9,12 +9,12 @@ ghost use Rattle.xd_report.specs.Follows.{Follows};
 ghost use Rattle.xd_report.specs.Lines.{lines_between, lines_from};
 ghost use Rattle.xd_session.specs.Stands.{StandsForNews, state_of};
 ghost use Rattle.xd_drive.specs.Agrees.{Agrees};
-ghost use Rattle.xd_drive.specs.Going.{TakesNews, TellsEntries, added_by, scene_of};
-ghost use Rattle.xd_drive.specs.Moments.{NotesNews, NotesTurn};
+ghost use Rattle.xd_drive.specs.Going.{TakesNews, TellsEntries, added_by};
+ghost use Rattle.xd_drive.specs.Moments.{scenes_of};
 ghost use Rattle.xd_drive.specs.Performing.{all_possible, entries_between};
+ghost use Rattle.xd_drive.specs.Seen.{scene_of};
 ghost use Rattle.xd_drive.specs.inner.Written.{is_whole};
 
-use crate::moment::Witness;
 use crate::perform::perform;
 use crate::printing::print_between;
 use crate::{Hub, Written};
@@ -25,10 +25,11 @@ use xd_journal::{Journal, News};
 use xd_ledger::Mode;
 use xd_report::Reporter;
 use xd_session::Session;
+use xd_trace::Moments;
 
-// Prints the lines of the entries from one place up to another, and performs them; false where the output failed, and
-// then nothing is performed.
-fn tell_entries<H: Hub, O: Sink, W: Witness<H, O>>(
+// Prints the lines of the entries from one place up to another, looks at the hub and the output, and performs the entries;
+// false where the output failed, and then nothing is performed.
+fn tell_entries<H: Hub, O: Sink>(
     alloc: Global,
     reporter: &mut Reporter,
     journal: &Journal,
@@ -36,27 +37,24 @@ fn tell_entries<H: Hub, O: Sink, W: Witness<H, O>>(
     to: usize,
     hub: &mut H,
     out: &mut O,
-    witness: &mut W,
+    moments: &mut Moments<H, O>,
 ) -> Result<bool, OutOfMemory>
     requires order { from ≤ to }
     requires within { to ≤ length journal.now.entries.items }
     requires follows { Follows reporter.old
         (after_entries (no_one journal.now.settings) (take from journal.now.entries.items)) }
-    requires possible { all_possible (H.slots hub.old) (H.marks hub.old)
+    requires possible { all_possible (H.slots (H.made hub.old)) (H.marks hub.old)
         (entries_between from to journal.now.entries.items) ≡ true }
     ensures tells { IfOk result (λ shown.
         TellsEntries shown (entries_between from to journal.now.entries.items)
         (lines_between journal.now from to)
-        (scene_of H.marks H.starts H.calls H.given O.sunk hub.old out.old)
-        (scene_of H.marks H.starts H.calls H.given O.sunk hub.new out.new)) }
+        (scene_of H.marks H.seen O.sunk hub.old out.old)
+        (scene_of H.marks H.seen O.sunk hub.new out.new)
+        (scenes_of H.marks H.seen O.sunk moments.old)
+        (scenes_of H.marks H.seen O.sunk moments.new)) }
     ensures follows { OnOk result
         (Follows reporter.new (after_entries (no_one journal.now.settings)
         (take to journal.now.entries.items))) }
-    ensures notes { IfOk result (λ shown. NotesTurn shown
-        (scene_of H.marks H.starts H.calls H.given O.sunk hub.old out.old)
-        (scene_of H.marks H.starts H.calls H.given O.sunk hub.new out.new)
-        (W.seen witness.old) (W.seen witness.new)) }
-    ensures slots { H.slots hub.new ≡ H.slots hub.old }
     ensures made { H.made hub.new ≡ H.made hub.old }
     ensures later { O.faults out.old ≤ O.faults out.new }
     ensures counted { IfOk result (λ shown. Counted shown (O.faults out.old) (O.faults out.new)) }
@@ -65,7 +63,7 @@ fn tell_entries<H: Hub, O: Sink, W: Witness<H, O>>(
     if !shown {
         return Ok(false);
     }
-    witness.look(hub, out);
+    moments.look(hub, out);
     perform(alloc, hub, &journal.entries[from..to])?;
     Ok(true)
 }
@@ -79,21 +77,21 @@ pub(crate) fn entry_count(journal: &Journal) -> usize
 
 // Takes a piece of news of an active worker, prints the lines of what it adds to the journal, and performs that; false
 // where the output failed, and then nothing is performed.
-fn tell_news<M: Mode, H: Hub, O: Sink, W: Witness<H, O>>(
+fn tell_news<M: Mode, H: Hub, O: Sink>(
     alloc: Global,
     session: &mut Session<M>,
     reporter: &mut Reporter,
     news: News,
     hub: &mut H,
     out: &mut O,
-    witness: &mut W,
+    moments: &mut Moments<H, O>,
 ) -> Result<bool, OutOfMemory>
     requires stands { (taken : List News) × StandsForNews taken session.old }
     requires follows { Follows reporter.old
         (after_entries (no_one session.old.settings) session.old.entries) }
     requires active { is_active news.worker (state_of session.old).books ≡ true }
     requires possible { (taken : List News) → StandsForNews taken session.old →
-        all_possible (H.slots hub.old) (H.marks hub.old)
+        all_possible (H.slots (H.made hub.old)) (H.marks hub.old)
         (added_by session.old.settings taken news) ≡ true }
     ensures stands { OnOk result ((taken : List News) → StandsForNews taken session.old →
         StandsForNews (taken ++ news ∷ []) session.new) }
@@ -102,15 +100,12 @@ fn tell_news<M: Mode, H: Hub, O: Sink, W: Witness<H, O>>(
         TellsEntries shown (added_by session.old.settings taken news)
         (lines_from (after_entries (no_one session.old.settings) session.old.entries)
         (added_by session.old.settings taken news))
-        (scene_of H.marks H.starts H.calls H.given O.sunk hub.old out.old)
-        (scene_of H.marks H.starts H.calls H.given O.sunk hub.new out.new)) }
-    ensures notes { IfOk result (λ shown. NotesTurn shown
-        (scene_of H.marks H.starts H.calls H.given O.sunk hub.old out.old)
-        (scene_of H.marks H.starts H.calls H.given O.sunk hub.new out.new)
-        (W.seen witness.old) (W.seen witness.new)) }
+        (scene_of H.marks H.seen O.sunk hub.old out.old)
+        (scene_of H.marks H.seen O.sunk hub.new out.new)
+        (scenes_of H.marks H.seen O.sunk moments.old)
+        (scenes_of H.marks H.seen O.sunk moments.new)) }
     ensures follows { OnOk result
         (Follows reporter.new (after_entries (no_one session.new.settings) session.new.entries)) }
-    ensures slots { H.slots hub.new ≡ H.slots hub.old }
     ensures made { H.made hub.new ≡ H.made hub.old }
     ensures later { O.faults out.old ≤ O.faults out.new }
     ensures counted { IfOk result (λ shown. Counted shown (O.faults out.old) (O.faults out.new)) }
@@ -124,39 +119,36 @@ fn tell_news<M: Mode, H: Hub, O: Sink, W: Witness<H, O>>(
         step.to,
         hub,
         out,
-        witness,
+        moments,
     )?;
     Ok(shown)
 }
 
 /// Takes the next piece of news, where its worker is active: prints the lines of what it adds to the journal, and
 /// performs the outputs. Where the output failed nothing of it is performed.
-pub(crate) fn take_news<R: Wait, M: Mode, H: Hub, O: Sink, W: Witness<H, O>>(
+pub(crate) fn take_news<R: Wait, M: Mode, H: Hub, O: Sink>(
     rt: &R,
     alloc: Global,
     session: &mut Session<M>,
     reporter: &mut Reporter,
     hub: &mut H,
     out: &mut O,
-    witness: &mut W,
+    moments: &mut Moments<H, O>,
 ) -> Result<Written, OutOfMemory>
     requires proper { IsProper session.old.settings [] }
     requires stands { (taken : List News) × StandsForNews taken session.old }
     requires follows { Follows reporter.old
         (after_entries (no_one session.old.settings) session.old.entries) }
-    requires slots { session.old.settings.workers ≤ H.slots hub.old }
+    requires slots { session.old.settings.workers ≤ H.slots (H.made hub.old) }
     requires agrees { Agrees (state_of session.old).books (H.marks hub.old) }
     requires someone { (w : ℕ) × ((H.marks hub.old w).started ≡ true) }
     ensures takes { IfOk result (λ written. (n : News) × TakesNews n written session.old session.new
-        (scene_of H.marks H.starts H.calls H.given O.sunk hub.old out.old)
-        (scene_of H.marks H.starts H.calls H.given O.sunk hub.new out.new)) }
-    ensures notes { IfOk result (λ written. NotesNews written session.old session.new
-        (scene_of H.marks H.starts H.calls H.given O.sunk hub.old out.old)
-        (scene_of H.marks H.starts H.calls H.given O.sunk hub.new out.new)
-        (W.seen witness.old) (W.seen witness.new)) }
+        (scene_of H.marks H.seen O.sunk hub.old out.old)
+        (scene_of H.marks H.seen O.sunk hub.new out.new)
+        (scenes_of H.marks H.seen O.sunk moments.old)
+        (scenes_of H.marks H.seen O.sunk moments.new)) }
     ensures follows { OnOk result
         (Follows reporter.new (after_entries (no_one session.new.settings) session.new.entries)) }
-    ensures slots { H.slots hub.new ≡ H.slots hub.old }
     ensures made { H.made hub.new ≡ H.made hub.old }
     ensures later { O.faults out.old ≤ O.faults out.new }
     ensures counted { IfOk result (λ written.
@@ -164,10 +156,11 @@ pub(crate) fn take_news<R: Wait, M: Mode, H: Hub, O: Sink, W: Witness<H, O>>(
 {
     let news = hub.next(rt, alloc)?;
     if !session.is_active(news.worker) {
+        moments.look(hub, out);
         return Ok(Written::Whole);
     }
     let performed = entry_count(session.journal());
-    let shown = tell_news(alloc, session, reporter, news, hub, out, witness)?;
+    let shown = tell_news(alloc, session, reporter, news, hub, out, moments)?;
     if shown {
         Ok(Written::Whole)
     } else {

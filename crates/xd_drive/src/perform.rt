@@ -1,6 +1,7 @@
 // The outputs of a journal, performed at a hub.
 ghost use Rattle.std.specs.Prelude.{◌≡◌, ◌∷◌, [], ℕ, true, OnOk};
-ghost use Rattle.xd_drive.specs.Performing.{Performs, marks_after, marks_after_entry, all_possible, is_kill_of_started, is_start_of, kills_of_started, possible, was_started};
+ghost use Rattle.xd_drive.specs.Performing.{marks_after, marks_after_entry, all_possible, is_kill_of_started, is_start_of, kills_of_started, possible, was_started};
+ghost use Rattle.xd_drive.specs.Seen.{Performs};
 
 use crate::Hub;
 use std::alloc::Global;
@@ -9,14 +10,11 @@ use xd_journal::Entry;
 
 // Calls the hub for one entry, where it is an output.
 fn perform_one<H: Hub>(alloc: Global, hub: &mut H, entry: &Entry) -> Result<(), OutOfMemory>
-    requires { possible (H.slots hub.old) (H.marks hub.old) entry.now ≡ true }
+    requires { possible (H.slots (H.made hub.old)) (H.marks hub.old) entry.now ≡ true }
     ensures performs { OnOk result
-        (Performs (entry.now ∷ []) (H.starts hub.old) (H.starts hub.new) (H.calls hub.old)
-        (H.calls hub.new)) }
+        (Performs (entry.now ∷ []) (H.seen hub.old) (H.seen hub.new)) }
     ensures marks { OnOk result ((w : ℕ) →
         H.marks hub.new w ≡ marks_after_entry entry.now (H.marks hub.old) w) }
-    ensures given { OnOk result (H.given hub.new ≡ H.given hub.old) }
-    ensures slots { H.slots hub.new ≡ H.slots hub.old }
     ensures made { H.made hub.new ≡ H.made hub.old }
 {
     match entry {
@@ -39,14 +37,11 @@ pub(crate) fn perform<H: Hub>(
     hub: &mut H,
     entries: &[Entry],
 ) -> Result<(), OutOfMemory>
-    requires { all_possible (H.slots hub.old) (H.marks hub.old) entries.now ≡ true }
+    requires { all_possible (H.slots (H.made hub.old)) (H.marks hub.old) entries.now ≡ true }
     ensures performs { OnOk result
-        (Performs entries.now (H.starts hub.old) (H.starts hub.new) (H.calls hub.old)
-        (H.calls hub.new)) }
+        (Performs entries.now (H.seen hub.old) (H.seen hub.new)) }
     ensures marks { OnOk result ((w : ℕ) →
         H.marks hub.new w ≡ marks_after entries.now (H.marks hub.old) w) }
-    ensures given { OnOk result (H.given hub.new ≡ H.given hub.old) }
-    ensures slots { H.slots hub.new ≡ H.slots hub.old }
     ensures made { H.made hub.new ≡ H.made hub.old }
 {
     for entry in entries {
@@ -86,16 +81,13 @@ fn kill_one<H: Hub>(
     done: &[Entry],
     entry: &Entry,
 ) -> Result<(), OutOfMemory>
-    requires { all_possible (H.slots hub.old) (H.marks hub.old)
+    requires { all_possible (H.slots (H.made hub.old)) (H.marks hub.old)
         (kills_of_started done.now (entry.now ∷ [])) ≡ true }
     ensures performs { OnOk result
-        (Performs (kills_of_started done.now (entry.now ∷ [])) (H.starts hub.old) (H.starts hub.new)
-        (H.calls hub.old) (H.calls hub.new)) }
+        (Performs (kills_of_started done.now (entry.now ∷ [])) (H.seen hub.old) (H.seen hub.new)) }
     ensures marks { OnOk result ((w : ℕ) →
         H.marks hub.new w ≡ marks_after (kills_of_started done.now (entry.now ∷ []))
         (H.marks hub.old) w) }
-    ensures given { OnOk result (H.given hub.new ≡ H.given hub.old) }
-    ensures slots { H.slots hub.new ≡ H.slots hub.old }
     ensures made { H.made hub.new ≡ H.made hub.old }
 {
     if is_kill_of_started(done, entry) {
@@ -112,12 +104,10 @@ pub(crate) fn kill_started<H: Hub>(
     done: &[Entry],
     entries: &[Entry],
 ) -> Result<(), OutOfMemory>
-    requires { all_possible (H.slots hub.old) (H.marks hub.old)
+    requires { all_possible (H.slots (H.made hub.old)) (H.marks hub.old)
         (kills_of_started done.now entries.now) ≡ true }
     ensures performs { OnOk result
-        (Performs (kills_of_started done.now entries.now) (H.starts hub.old) (H.starts hub.new)
-        (H.calls hub.old) (H.calls hub.new)) }
-    ensures given { OnOk result (H.given hub.new ≡ H.given hub.old) }
+        (Performs (kills_of_started done.now entries.now) (H.seen hub.old) (H.seen hub.new)) }
     ensures made { H.made hub.new ≡ H.made hub.old }
 {
     for entry in entries {

@@ -11,11 +11,11 @@ ghost use Rattle.xd_report.specs.Status.{status_in, status_of};
 ghost use Rattle.xd_session.specs.Ends.{is_out_fault};
 ghost use Rattle.xd_session.specs.Stands.{StandsForNews};
 ghost use Rattle.xd_drive.specs.Driven.{Drove};
-ghost use Rattle.xd_drive.specs.Going.{EndsRun, EndsTail, HasNoMarks, scene_of};
-ghost use Rattle.xd_drive.specs.Moments.{ToldInOrder, performed_of};
+ghost use Rattle.xd_drive.specs.Going.{EndsRun, EndsTail, HasNoMarks};
+ghost use Rattle.xd_drive.specs.Moments.{scenes_of};
+ghost use Rattle.xd_drive.specs.Seen.{scene_of};
 ghost use Rattle.xd_drive.specs.inner.Written.{is_whole};
 
-use crate::moment::Witness;
 use crate::news::{entry_count, take_news};
 use crate::perform::{kill_started, perform};
 use crate::printing::{print_end, reporter_of};
@@ -27,14 +27,17 @@ use xd_journal::{Journal, RunStop};
 use xd_ledger::Mode;
 use xd_report::Reporter;
 use xd_session::Session;
+use xd_trace::Moments;
 
 /// What a session that was driven to its end came to.
 #[derive(Drop)]
-pub struct DrivenRun {
+pub struct DrivenRun<H, O> {
     /// The journal, with its end.
     pub journal: Journal,
     /// The exit status of the journal.
     pub status: u8,
+    /// How the hub and the output stood after the lines of each piece of news. Clauses alone read it.
+    pub moments: Moments<H, O>,
 }
 
 // Prints the tail of a journal that was performed, and closes the output.
@@ -55,29 +58,25 @@ fn finish<O: Sink>(alloc: Global, journal: &Journal, out: &mut O) -> Result<Writ
 }
 
 // Performs the first starts, takes news until the run is over or the output fails, and prints the tail.
-fn run<R: Wait, M: Mode, H: Hub, O: Sink, W: Witness<H, O>>(
+fn run<R: Wait, M: Mode, H: Hub, O: Sink>(
     rt: &R,
     alloc: Global,
     session: &mut Session<M>,
     reporter: &mut Reporter,
     hub: &mut H,
     out: &mut O,
-    witness: &mut W,
+    moments: &mut Moments<H, O>,
 ) -> Result<Written, OutOfMemory>
     requires proper { IsProper session.old.settings [] }
     requires begins { StandsForNews [] session.old }
     requires follows { Follows reporter.old
         (after_entries (no_one session.old.settings) session.old.entries) }
-    requires slots { session.old.settings.workers ≤ H.slots hub.old }
+    requires slots { session.old.settings.workers ≤ H.slots (H.made hub.old) }
     requires fresh { HasNoMarks (H.marks hub.old) }
     ensures ends { IfOk result (λ written. EndsRun written session.new
-        (scene_of H.marks H.starts H.calls H.given O.sunk hub.old out.old)
-        (scene_of H.marks H.starts H.calls H.given O.sunk hub.new out.new)) }
-    ensures in_order { IfOk result (λ written.
-        ToldInOrder session.new.settings
-        (performed_of written session.new.entries) session.new.entries
-        (scene_of H.marks H.starts H.calls H.given O.sunk hub.old out.old)
-        (W.seen witness.new)) }
+        (scene_of H.marks H.seen O.sunk hub.old out.old)
+        (scene_of H.marks H.seen O.sunk hub.new out.new)
+        (scenes_of H.marks H.seen O.sunk moments.new)) }
     ensures settings { OnOk result (session.new.settings ≡ session.old.settings) }
     ensures follows { OnOk result
         (Follows reporter.new (after_entries (no_one session.new.settings) session.new.entries)) }
@@ -86,14 +85,13 @@ fn run<R: Wait, M: Mode, H: Hub, O: Sink, W: Witness<H, O>>(
     ensures counted { IfOk result (λ written.
         Counted (is_whole written) (O.faults out.old) (O.faults out.new)) }
 {
-    witness.look(hub, out);
     perform(alloc, hub, &session.journal().entries)?;
     for _ in rt.forever() {
         if session.over() {
             let written = finish(alloc, session.journal(), out)?;
             return Ok(written);
         }
-        let written = take_news(rt, alloc, session, reporter, hub, out, witness)?;
+        let written = take_news(rt, alloc, session, reporter, hub, out, moments)?;
         if let Written::Broken { performed } = written {
             return Ok(Written::Broken { performed });
         }
@@ -124,25 +122,24 @@ fn status_over(reporter: &Reporter) -> u8
 ///
 /// The hub is made of what it was made of before.
 ///
-/// The witness looks at the hub and the output at moments: for each entry once after its lines and before its performing,
-/// which the two as they stand at the end could not show. Clauses alone read what it saw.
+/// After the lines of each piece of news, and before what it makes is performed and the next one is waited for, it looks at
+/// the hub and the output, since the two as they stand at the end could not show which came first.
 ///
 /// Where memory is refused it returns as it stands: the workers that the hub started are left to the hub's owner to end.
-pub fn drive<R: Wait, M: Mode, H: Hub, O: Sink, W: Witness<H, O>>(
+pub fn drive<R: Wait, M: Mode, H: Hub, O: Sink>(
     rt: &R,
     alloc: Global,
     mut session: Session<M>,
     hub: &mut H,
     out: &mut O,
-    witness: &mut W,
-) -> Result<DrivenRun, OutOfMemory>
+) -> Result<DrivenRun<H, O>, OutOfMemory>
     requires begins { StandsForNews [] session }
-    requires slots { session.settings.workers ≤ H.slots hub.old }
+    requires slots { session.settings.workers ≤ H.slots (H.made hub.old) }
     requires fresh { HasNoMarks (H.marks hub.old) }
     ensures drove { IfOk result (λ r. Drove session.settings r.journal
-        (scene_of H.marks H.starts H.calls H.given O.sunk hub.old out.old)
-        (scene_of H.marks H.starts H.calls H.given O.sunk hub.new out.new)
-        (W.seen witness.new)) }
+        (scene_of H.marks H.seen O.sunk hub.old out.old)
+        (scene_of H.marks H.seen O.sunk hub.new out.new)
+        (scenes_of H.marks H.seen O.sunk r.moments)) }
     ensures status { IfOk result (λ r. r.status ≡ status_of r.journal) }
     ensures counted { IfOk result (λ r.
         Counted (not (is_out_fault (stop_of r.journal))) (O.faults out.old) (O.faults out.new)) }
@@ -150,12 +147,22 @@ pub fn drive<R: Wait, M: Mode, H: Hub, O: Sink, W: Witness<H, O>>(
     ensures made { H.made hub.new ≡ H.made hub.old }
 {
     let mut reporter = reporter_of(alloc, session.journal())?;
-    let written = run(rt, alloc, &mut session, &mut reporter, hub, out, witness)?;
+    let mut moments = Moments::new(alloc)?;
+    let written = run(
+        rt,
+        alloc,
+        &mut session,
+        &mut reporter,
+        hub,
+        out,
+        &mut moments,
+    )?;
     let Written::Broken { performed } = written else {
         let journal = session.close(false)?;
         return Ok(DrivenRun {
             journal,
             status: status_over(&reporter),
+            moments,
         });
     };
     let journal = session.close(true)?;
@@ -168,5 +175,6 @@ pub fn drive<R: Wait, M: Mode, H: Hub, O: Sink, W: Witness<H, O>>(
     Ok(DrivenRun {
         journal,
         status: reporter.status(RunStop::OutFault),
+        moments,
     })
 }

@@ -26,7 +26,6 @@ use xd_memory::MemSink;
 use xd_scope::Scope;
 use xd_session::Session;
 use xd_steal::Steal;
-use xd_trace::Trace;
 
 fn mode_of(word: Option<&str>) -> ModeKind {
     match word {
@@ -93,7 +92,7 @@ pub struct Ran {
 
 fn rest_of(
     alloc: Global,
-    run: &Result<DrivenRun, OutOfMemory>,
+    run: &Result<DrivenRun<ListedHub, MemSink>, OutOfMemory>,
     out: &MemSink,
 ) -> Result<String, Fail> {
     let mut text = String::new(alloc);
@@ -162,8 +161,7 @@ fn run_in<R: Wait, M: Mode>(
     };
     let mut hub = ListedHub::new(alloc, news_of(alloc, news)?, refused);
     let mut out = output_that_fails(alloc, words)?;
-    let mut moments = Trace::new(alloc)?;
-    let run = drive(rt, alloc, session, &mut hub, &mut out, &mut moments);
+    let run = drive(rt, alloc, session, &mut hub, &mut out);
     let mut calls = String::new(alloc);
     show_entries(alloc, &mut calls, &hub.calls)?;
     let rest = rest_of(alloc, &run, &out)?;

@@ -10,13 +10,13 @@ tell_entries-requires-clause-order g c =
 
 pub tell_entries-requires-clause-possible : goal.tell_entries-requires-clause-possible
 tell_entries-requires-clause-possible g c =
-    ap (all_possible (g.H.Hub.slots c.args.hub.now) (g.H.Hub.marks c.args.hub.now))
+    ap (all_possible (g.H.Hub.slots (g.H.Hub.made c.args.hub.now)) (g.H.Hub.marks c.args.hub.now))
     (between-is c.args.session.now c.step.new.self c.requires.stands.0 c.args.news c.requires.stands.1 (c.in_ok-step.ensures.stands c.requires.stands.0 c.requires.stands.1) c.step.ensures.settings
     c.in_ok-step.step.from c.in_ok-step.step.to c.journal.result.now c.in_ok-step.ensures.places.0 c.in_ok-step.ensures.places.1 c.journal.ensures.settings c.journal.ensures.entries)
     ∙ c.requires.possible c.requires.stands.0 c.requires.stands.1
 
 pub returns-clause-tells : goal.returns-clause-tells
-returns-clause-tells g c = λ taken st. tells-as c.in_ok-shown.shown _ _ _ _ _ _
+returns-clause-tells g c = λ taken st. tells-as c.in_ok-shown.shown _ _ _ _ _ _ _ _
     (between-is c.args.session.now c.step.new.self taken c.args.news st (c.in_ok-step.ensures.stands taken st) c.step.ensures.settings
     c.in_ok-step.step.from c.in_ok-step.step.to c.journal.result.now c.in_ok-step.ensures.places.0 c.in_ok-step.ensures.places.1 c.journal.ensures.settings c.journal.ensures.entries)
     (lines-are c.args.session.now c.step.new.self taken c.args.news st (c.in_ok-step.ensures.stands taken st) c.step.ensures.settings
