@@ -13,24 +13,29 @@ use Rattle.xd_report.specs.Breaking.{BrokeAtEnd}
 use Rattle.xd_report.specs.Printing.{ShowsEnd}
 use Rattle.xd_report.proofs.Prints.{shows-end}
 use Rattle.xd_report.proofs.Texts.{lines-more}
+use Rattle.xd_local.specs.Local.{LinesCame, RoundSeen}
 use Rattle.xd_local.specs.Print.{AtStep, OutputFailedAt}
-use Rattle.xd_local.specs.inner.Running.{HasEnded, RanAll, RanPrinted, LocalScene, ShowsReport}
+use Rattle.xd_local.specs.inner.Running.{HasEnded, RanAll, RanPrinted, LocalScene, ShowsReport, round_at}
 
 module _ (tests : List Test) (old : LocalScene) where
-  pub not_ran : (new : LocalScene) → RanAll false tests old new → RanPrinted false tests old new
-  not_ran new ran = record {
+  pub not_ran : (new : LocalScene) (ms : List RoundSeen) → RanAll false tests old new ms → RanPrinted false tests old new ms
+  not_ran new ms ran = record {
     results = ran.results;
     so_far = ran.so_far;
     timed = ran.timed;
+    lines = ran.lines;
     all = ran.all;
     shows = inl ran.shows;
     told = ran.told;
   }
 
   -- the tail goes to the output, and leaves the run as it was
-  pub printed : (shown : Bool) (mid : LocalScene) (out : Option Sunk) → RanAll true tests old mid → ShowsEnd shown (tail_text mid.run.journal) mid.sunk out → RanPrinted shown tests old (record { run = mid.run; sunk = out; clock = mid.clock })
-  printed shown mid out ran shows = record { results = ran.results; so_far = ran.so_far; timed = ran.timed; all = λ is. ran.all refl; shows = both shown shows; told = λ is. ran.told refl }
+  pub printed : (shown : Bool) (mid : LocalScene) (out : Option Sunk) (ms : List RoundSeen) → RanAll true tests old mid ms → ShowsEnd shown (tail_text mid.run.journal) mid.sunk out → RanPrinted shown tests old (record { run = mid.run; sunk = out; clock = mid.clock }) ms
+  printed shown mid out ms ran shows = record { results = ran.results; so_far = ran.so_far; timed = ran.timed; lines = came ran.lines; all = λ is. ran.all refl; shows = both shown shows; told = λ is. ran.told refl }
     where
+      came : LinesCame (true ≡ true) old.run.journal.settings tests ran.results (round_at old) ms → LinesCame (shown ≡ true) old.run.journal.settings tests ran.results (round_at old) ms
+      came l = record { told = l.told; last = l.last; split = l.split; one = l.one; none = λ _. l.none refl; in_time = l.in_time }
+
       both : (b : Bool) → ShowsEnd b (tail_text mid.run.journal) mid.sunk out → ShowsReport b (HasEnded old.run.journal.settings.maxfail tests ran.results) mid.run.journal old.sunk out
       both true tail = shows-end (run_lines mid.run.journal.settings mid.run.journal.entries.items) (tail_text mid.run.journal) old.sunk mid.sunk out ran.shows tail
       both false (inl tail) = inr (record { all = ran.all refl; shows = inl (mid.sunk, ran.shows, tail) })

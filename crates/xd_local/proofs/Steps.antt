@@ -11,6 +11,7 @@ use Rattle.xd_edge.specs.Faults.{RoseBy}
 use Rattle.xd_edge.specs.Printing.{ShowsSome}
 use Rattle.xd_edge.specs.Sink.{TookPart}
 use Rattle.xd_edge.proofs.PrintLemmas.{shows-more}
+use Rattle.xd_trace.proofs.Each.{each-more, each-none}
 use Rattle.xd_suite.specs.declared.test.Test.{Test}
 use Rattle.xd_suite.specs.Tests.{run_at}
 use Rattle.xd_journal.specs.declared.entry.Entry.{Entry}
@@ -31,11 +32,11 @@ use Rattle.xd_report.specs.Lines.{lines_from, run_lines}
 use Rattle.xd_report.proofs.Texts.{lines-more}
 use Rattle.xd_child.specs.Ending.{fault_count, outcome_of}
 use Rattle.xd_child.specs.Running.{RanChild}
-use Rattle.xd_local.specs.Local.{kept_by, kept_of_starts, local_settings, RanTests}
+use Rattle.xd_local.specs.Local.{IsAfterTest, LinesCame, LinesInTime, RanTests, RoundSeen, kept_by, kept_of_starts, local_settings}
 use Rattle.xd_local.specs.Outside.{Programs}
 use Rattle.xd_local.specs.Timing.{AreTimed}
 use Rattle.xd_local.specs.Print.{AtStep}
-use Rattle.xd_local.specs.inner.Running.{child_of, failed_of, ids_of_tests, result_faults, after_journal, WasCollected, Progress, RanAll, RanTest, Running, LocalScene, SoFar}
+use Rattle.xd_local.specs.inner.Running.{child_of, failed_of, ids_of_tests, result_faults, after_journal, WasCollected, Progress, RanAll, RanTest, Running, LocalScene, SoFar, round_at}
 use Rattle.xd_local.proofs.Alone.{below-next, is_some-stop, stop-begun, stop_by}
 use Rattle.xd_local.proofs.Timings.{timed_more}
 
@@ -120,9 +121,16 @@ module _ (tests : List Test) where
         added = added_more ran.runs run old mid new ran.added more.added;
       }
 
+  abbrev After : LocalScene → List TestResult → TestResult → RoundSeen → Type 0
+  After old before r m = IsAfterTest old.run.journal.settings tests before r (round_at old) m
+
   module _ (old : LocalScene) (is_local : old.run.journal.settings ≡ local_settings old.run.journal.settings.maxfail) where
     abbrev limit : ℕ
     limit = old.run.journal.settings.maxfail
+
+    -- each of these results had its moment
+    all-came : {P : Type 0} (results : List TestResult) (ms : List RoundSeen) → LinesInTime old.run.journal.settings tests results (round_at old) ms → LinesCame P old.run.journal.settings tests results (round_at old) ms
+    all-came results ms lines = record { told = results; last = []; split = sym (append-nil results); one = omega arith; none = λ _. refl; in_time = lines }
 
     -- no test was run yet
     none_ran : (r : Running) → r.journal.entries.items ≡ local_entries (ids_of_tests tests) [] → r.journal.settings ≡ old.run.journal.settings → r.programs ≡ old.run.programs → SoFar [] tests old.run r
@@ -151,22 +159,24 @@ module _ (tests : List Test) where
       lines_same : lines new.run.journal ≡ lines old.run.journal
       lines_same = ap (λ (r : Running). lines r.journal) same
 
-      pub start : ShowsLines true (lines old.run.journal) old.sunk new.sunk → Follows new.run.reporter (after_journal old.run.journal) → Progress 0 tests old new
-      start shows follows = record {
+      pub start : (ms : List RoundSeen) → ShowsLines true (lines old.run.journal) old.sunk new.sunk → Follows new.run.reporter (after_journal old.run.journal) → Progress 0 tests old new ms
+      start ms shows follows = record {
         results = [];
         so_far = first;
         timed = same_clock;
         counted = refl;
         spent_is = ap (λ (r : Running). r.spent) same ∙ begun.nothing_kept;
+        lines = each-none (After old) ms;
         shows = subst (λ (l : List ℕ). ShowsSome l old.sunk new.sunk) (sym lines_same) shows;
         told = subst (λ (j : Journal). Follows new.run.reporter (after_journal j)) (sym (ap (λ (r : Running). r.journal) same)) follows;
       }
 
-      pub not_collected : ShowsLines false (lines old.run.journal) old.sunk new.sunk → RanAll false tests old new
-      not_collected shows = record {
+      pub not_collected : (ms : List RoundSeen) → ShowsLines false (lines old.run.journal) old.sunk new.sunk → RanAll false tests old new ms
+      not_collected ms shows = record {
         results = [];
         so_far = first;
         timed = same_clock;
+        lines = record { told = []; last = []; split = refl; one = omega arith; none = λ _. refl; in_time = each-none (After old) ms };
         all = λ no. cc;
         shows = record {
           before = [];
@@ -189,17 +199,18 @@ module _ (tests : List Test) where
     reached_is r results b so_far is = is ∙ ap is_some (stop_so_far r results so_far) ∙ is_some-stop limit (failed_of results)
 
     -- after the test that reached the limit
-    pub limited : (count : ℕ) (new : LocalScene) (b : Bool) → Progress count tests old new → b ≡ is_stopped (after_journal new.run.journal).books → b ≡ true → RanAll true tests old new
-    limited count new b p is reached = record {
+    pub limited : (count : ℕ) (new : LocalScene) (ms : List RoundSeen) (b : Bool) → Progress count tests old new ms → b ≡ is_stopped (after_journal new.run.journal).books → b ≡ true → RanAll true tests old new ms
+    limited count new ms b p is reached = record {
       results = p.results;
       so_far = p.so_far;
       timed = p.timed;
+      lines = all-came p.results ms p.lines;
       all = λ _. inl (sym (reached_is new.run p.results b p.so_far is) ∙ reached);
       shows = p.shows;
       told = λ _. p.told;
     }
 
-    module _ (k : ℕ) (mid new : LocalScene) (p : Progress k tests old mid) (within : k < length tests) (b : Bool) (b_is : b ≡ is_stopped (after_journal mid.run.journal).books) (go_on : b ≡ false)
+    module _ (k : ℕ) (mid new : LocalScene) (ms : List RoundSeen) (p : Progress k tests old mid ms) (within : k < length tests) (b : Bool) (b_is : b ≡ is_stopped (after_journal mid.run.journal).books) (go_on : b ≡ false)
         (shown : Bool) (more : RanTest shown k (run_at tests k) mid new) where
       abbrev es1 : List Entry
       es1 = mid.run.journal.entries.items
@@ -266,27 +277,35 @@ module _ (tests : List Test) where
         shows = (mid.sunk, p.shows, part);
       }
 
-      pub go : shown ≡ true → Progress (k + 1) tests old new
-      go is = record {
+      shows-all-so-far : shown ≡ true → ShowsSome (run_lines new.run.journal.settings es2) old.sunk new.sunk
+      shows-all-so-far is = subst (λ (l : List ℕ). ShowsSome l old.sunk new.sunk) (sym text)
+          (shows-more (run_lines mid.run.journal.settings es1) added old.sunk mid.sunk new.sunk p.shows (subst (λ b. ShowsLines b added mid.sunk new.sunk) is more.shows))
+
+      pub go : shown ≡ true → (after : List RoundSeen) → after ≡ ms ++ round_at new ∷ [] → Progress (k + 1) tests old new after
+      go is after noted = record {
         results = results;
         so_far = so_far;
         timed = timed;
         counted = long;
         spent_is = more.noted.spent ∙ (let s = p.spent_is in let t = total_kept in omega arith);
-        shows = subst (λ (l : List ℕ). ShowsSome l old.sunk new.sunk) (sym text)
-            (shows-more (run_lines mid.run.journal.settings es1) added old.sunk mid.sunk new.sunk p.shows (subst (λ b. ShowsLines b added mid.sunk new.sunk) is more.shows));
+        lines = subst (LinesInTime old.run.journal.settings tests results (round_at old)) (sym noted) (each-more (After old) p.results more.result ms (round_at new) p.lines (record {
+          ran = so_far.ran;
+          shows = subst (λ (es : List Entry). ShowsSome (run_lines old.run.journal.settings es) old.sunk new.sunk) grown (subst (λ (st : Settings). ShowsSome (run_lines st es2) old.sunk new.sunk) so_far.settings (shows-all-so-far is));
+        }));
+        shows = shows-all-so-far is;
         told = more.told is;
       }
 
-      pub stop : shown ≡ false → RanAll false tests old new
+      pub stop : shown ≡ false → RanAll false tests old new ms
       stop is = record {
         results = results;
         so_far = so_far;
         timed = timed;
+        lines = record { told = p.results; last = more.result ∷ []; split = refl; one = omega arith; none = λ no. cc; in_time = p.lines };
         all = λ no. cc;
         shows = subst (λ (st : Settings). AtStep st es2 old.sunk new.sunk) (sym more.noted.settings) (broke (subst (λ b. ShowsLines b added mid.sunk new.sunk) is more.shows));
         told = λ no. cc;
       }
 
-    pub finish : (new : LocalScene) → Progress (length tests) tests old new → RanAll true tests old new
-    finish new p = record { results = p.results; so_far = p.so_far; timed = p.timed; all = λ _. inr p.counted; shows = p.shows; told = λ _. p.told }
+    pub finish : (new : LocalScene) (ms : List RoundSeen) → Progress (length tests) tests old new ms → RanAll true tests old new ms
+    finish new ms p = record { results = p.results; so_far = p.so_far; timed = p.timed; lines = all-came p.results ms p.lines; all = λ _. inr p.counted; shows = p.shows; told = λ _. p.told }

@@ -35,11 +35,11 @@ use Rattle.xd_report.proofs.EachReport.{failed-all}
 use Rattle.xd_report.proofs.Failures.{status-faulty, status-over}
 use Rattle.xd_report.proofs.Named.{blocks-named, lines-named}
 use Rattle.xd_report.proofs.Texts.{over-same}
-use Rattle.xd_local.specs.Local.{faults_of_reports, KeepsLimit, RunsSuite, RunsTests, local_settings, stop_after, stop_at}
+use Rattle.xd_local.specs.Local.{LinesCame, LinesInTime, RoundSeen, faults_of_reports, KeepsLimit, RunsSuite, RunsTests, local_settings, stop_after, stop_at}
 use Rattle.xd_local.specs.Outside.{Programs}
 use Rattle.xd_edge.specs.Clock.{Ticking}
 use Rattle.xd_local.specs.Print.{AtStep, AtEndOfTests, DidAll, OutputFailedAt, PrintsReport, failures_in}
-use Rattle.xd_local.specs.inner.Running.{BelowLimit, ClosedJournal, HasCollected, HasEnded, HasStatus, WasCollected, NothingCollected, RanPrinted, Running, LocalScene, ShowsReport, FollowsJournal, after_journal, failed_of, ids_of_tests}
+use Rattle.xd_local.specs.inner.Running.{BelowLimit, ClosedJournal, HasCollected, HasEnded, HasStatus, WasCollected, NothingCollected, RanPrinted, Running, LocalScene, ShowsReport, FollowsJournal, after_journal, failed_of, ids_of_tests, round_at}
 use Rattle.xd_local.proofs.Alone.{below-at, below-first, eq_same, failures-alone, failures-rounds, faults-alone, is_some-stop, items-alone, length-alone, lists-rounds, low-none, reports-rounds, reports_alone, stop-begun, stop_by, take-alone, unwrap-stop}
 use Rattle.xd_local.proofs.Report.{failed_part}
 
@@ -52,13 +52,13 @@ or-true true = refl
 or-true false = refl
 
 -- A run that was printed, or was not, and its journal with the end.
-pub record Ended (tests : List Test) (maxfail : ℕ) (j : Journal) (shown : Bool) (old new : LocalScene) : Type 0 where
-  pub ran : RanPrinted shown tests old new
+pub record Ended (tests : List Test) (maxfail : ℕ) (j : Journal) (shown : Bool) (old new : LocalScene) (ms : List RoundSeen) : Type 0 where
+  pub ran : RanPrinted shown tests old new ms
   pub settings : old.run.journal.settings ≡ local_settings maxfail
   pub same_settings : j.settings ≡ new.run.journal.settings
   pub ended : j.entries.items ≡ new.run.journal.entries.items ++ Over (stop_after shown (after_journal new.run.journal).books.stop) ∷ []
 
-module _ (tests : List Test) (maxfail : ℕ) (j1 : Journal) (shown : Bool) (old new : LocalScene) (e : Ended tests maxfail j1 shown old new) where
+module _ (tests : List Test) (maxfail : ℕ) (j1 : Journal) (shown : Bool) (old new : LocalScene) (ms : List RoundSeen) (e : Ended tests maxfail j1 shown old new ms) where
   abbrev ids : List (List ℕ)
   ids = map (λ t. t.id) tests
 
@@ -183,7 +183,7 @@ module _ (tests : List Test) (maxfail : ℕ) (j1 : Journal) (shown : Bool) (old 
       by_end stopped true is_shown = how_printed is_shown ∙ ap (stop_at maxfail) (sym failures_are)
       by_end stopped false is_shown = absurd (stopped (how_broken is_shown))
 
-  suite : (before now : ℕ) → RunsSuite tests j1 (record { out = record { sunk = old.sunk; faults = before }; programs = old.run.programs; clock = old.clock }) (record { out = record { sunk = new.sunk; faults = now }; programs = new.run.programs; clock = new.clock })
+  suite : (before now : ℕ) → RunsSuite tests j1 (record { out = record { sunk = old.sunk; faults = before }; programs = old.run.programs; clock = old.clock }) (record { out = record { sunk = new.sunk; faults = now }; programs = new.run.programs; clock = new.clock }) ms
   suite before now = record {
     results = e.ran.results;
     entries = entries_are ∙ ap (λ (s : RunStop). local_entries ids results ++ Over s ∷ []) (sym stop_is);
@@ -191,7 +191,22 @@ module _ (tests : List Test) (maxfail : ℕ) (j1 : Journal) (shown : Bool) (old 
     timed = e.ran.timed;
     few_kept = e.ran.so_far.few_kept;
     few_in_all = e.ran.so_far.few_in_all;
+    lines = came e.ran.lines;
   }
+    where
+      printed_all : stop_of j1 ≢ OutFault → (b : Bool) → shown ≡ b → shown ≡ true
+      printed_all stopped true is = is
+      printed_all stopped false is = absurd (stopped (how_broken is))
+
+      came : LinesCame (shown ≡ true) old.run.journal.settings tests e.ran.results (round_at old) ms → LinesCame (stop_of j1 ≢ OutFault) j1.settings tests e.ran.results (round_at old) ms
+      came l = record {
+        told = l.told;
+        last = l.last;
+        split = l.split;
+        one = l.one;
+        none = λ stopped. l.none (printed_all stopped shown refl);
+        in_time = subst (λ (st : Settings). LinesInTime st tests l.told (round_at old) ms) (e.settings ∙ sym settings_are) l.in_time;
+      }
 
   once : NamesInOrder j1
   once = record {
@@ -318,7 +333,7 @@ module _ (tests : List Test) (maxfail : ℕ) (j1 : Journal) (shown : Bool) (old 
 
   -- the run, by how the output's count of faults went with it
   pub runs_tests : (before now : ℕ) → Counted shown before now
-      → RunsTests tests maxfail j1 (record { out = record { sunk = old.sunk; faults = before }; programs = old.run.programs; clock = old.clock }) (record { out = record { sunk = new.sunk; faults = now }; programs = new.run.programs; clock = new.clock })
+      → RunsTests tests maxfail j1 (record { out = record { sunk = old.sunk; faults = before }; programs = old.run.programs; clock = old.clock }) (record { out = record { sunk = new.sunk; faults = now }; programs = new.run.programs; clock = new.clock }) ms
   runs_tests before now count = record {
     legal = legal;
     settings = settings_are;
@@ -348,10 +363,10 @@ closed_as true r j c told = c.entries (after_journal r.journal) (told refl)
 closed_as false r j c told = c.broken refl
 
 -- from the words to the end: what the parts of a run came to
-ended_as : (tests : List Test) (maxfail : ℕ) (r0 r1 r2 : Running) (j : Journal) (out0 out1 : Option Sunk) (shown : Bool) (clock0 clock1 : Ticking)
-    → NothingCollected maxfail r0 → HasCollected tests r0 r1 → RanPrinted shown tests (record { run = r1; sunk = out0; clock = clock0 }) (record { run = r2; sunk = out1; clock = clock1 }) → ClosedJournal shown r2 j
-    → Ended tests maxfail j shown (record { run = r1; sunk = out0; clock = clock0 }) (record { run = r2; sunk = out1; clock = clock1 })
-ended_as tests maxfail r0 r1 r2 j out0 out1 shown clock0 clock1 n c ran closed = record {
+ended_as : (tests : List Test) (maxfail : ℕ) (r0 r1 r2 : Running) (j : Journal) (out0 out1 : Option Sunk) (shown : Bool) (clock0 clock1 : Ticking) (ms : List RoundSeen)
+    → NothingCollected maxfail r0 → HasCollected tests r0 r1 → RanPrinted shown tests (record { run = r1; sunk = out0; clock = clock0 }) (record { run = r2; sunk = out1; clock = clock1 }) ms → ClosedJournal shown r2 j
+    → Ended tests maxfail j shown (record { run = r1; sunk = out0; clock = clock0 }) (record { run = r2; sunk = out1; clock = clock1 }) ms
+ended_as tests maxfail r0 r1 r2 j out0 out1 shown clock0 clock1 ms n c ran closed = record {
   ran = ran;
   settings = c.settings ∙ n.settings;
   same_settings = closed.settings;
@@ -359,17 +374,17 @@ ended_as tests maxfail r0 r1 r2 j out0 out1 shown clock0 clock1 n c ran closed =
 }
 
 -- the run as a whole
-pub whole_run : (tests : List Test) (maxfail : ℕ) (r0 r1 r2 : Running) (j : Journal) (out0 out1 : Option Sunk) (shown : Bool) (before now : ℕ) (p0 p1 : Programs) (clock0 clock1 : Ticking)
-    → NothingCollected maxfail r0 → r0.programs ≡ p0 → HasCollected tests r0 r1 → RanPrinted shown tests (record { run = r1; sunk = out0; clock = clock0 }) (record { run = r2; sunk = out1; clock = clock1 }) → Counted shown before now → ClosedJournal shown r2 j → r2.programs ≡ p1
-    → RunsTests tests maxfail j (record { out = record { sunk = out0; faults = before }; programs = p0; clock = clock0 }) (record { out = record { sunk = out1; faults = now }; programs = p1; clock = clock1 })
-whole_run tests maxfail r0 r1 r2 j out0 out1 shown before now p0 p1 clock0 clock1 n first c ran count closed last =
-    let e = ended_as tests maxfail r0 r1 r2 j out0 out1 shown clock0 clock1 n c ran closed in
-    subst (λ (p : Programs). RunsTests tests maxfail j (record { out = record { sunk = out0; faults = before }; programs = p; clock = clock0 }) (record { out = record { sunk = out1; faults = now }; programs = p1; clock = clock1 })) (c.programs ∙ first)
-    (subst (λ (p : Programs). RunsTests tests maxfail j (record { out = record { sunk = out0; faults = before }; programs = r1.programs; clock = clock0 }) (record { out = record { sunk = out1; faults = now }; programs = p; clock = clock1 })) last
-    (runs_tests tests maxfail j shown (record { run = r1; sunk = out0; clock = clock0 }) (record { run = r2; sunk = out1; clock = clock1 }) e before now count))
+pub whole_run : (tests : List Test) (maxfail : ℕ) (r0 r1 r2 : Running) (j : Journal) (out0 out1 : Option Sunk) (shown : Bool) (before now : ℕ) (p0 p1 : Programs) (clock0 clock1 : Ticking) (ms : List RoundSeen)
+    → NothingCollected maxfail r0 → r0.programs ≡ p0 → HasCollected tests r0 r1 → RanPrinted shown tests (record { run = r1; sunk = out0; clock = clock0 }) (record { run = r2; sunk = out1; clock = clock1 }) ms → Counted shown before now → ClosedJournal shown r2 j → r2.programs ≡ p1
+    → RunsTests tests maxfail j (record { out = record { sunk = out0; faults = before }; programs = p0; clock = clock0 }) (record { out = record { sunk = out1; faults = now }; programs = p1; clock = clock1 }) ms
+whole_run tests maxfail r0 r1 r2 j out0 out1 shown before now p0 p1 clock0 clock1 ms n first c ran count closed last =
+    let e = ended_as tests maxfail r0 r1 r2 j out0 out1 shown clock0 clock1 ms n c ran closed in
+    subst (λ (p : Programs). RunsTests tests maxfail j (record { out = record { sunk = out0; faults = before }; programs = p; clock = clock0 }) (record { out = record { sunk = out1; faults = now }; programs = p1; clock = clock1 }) ms) (c.programs ∙ first)
+    (subst (λ (p : Programs). RunsTests tests maxfail j (record { out = record { sunk = out0; faults = before }; programs = r1.programs; clock = clock0 }) (record { out = record { sunk = out1; faults = now }; programs = p; clock = clock1 }) ms) last
+    (runs_tests tests maxfail j shown (record { run = r1; sunk = out0; clock = clock0 }) (record { run = r2; sunk = out1; clock = clock1 }) ms e before now count))
 
 -- the same of its exit status
-pub whole_status : (tests : List Test) (maxfail : ℕ) (r0 r1 r2 : Running) (j : Journal) (out0 out1 : Option Sunk) (shown : Bool) (status : ℕ) (clock0 clock1 : Ticking)
-    → NothingCollected maxfail r0 → HasCollected tests r0 r1 → RanPrinted shown tests (record { run = r1; sunk = out0; clock = clock0 }) (record { run = r2; sunk = out1; clock = clock1 }) → ClosedJournal shown r2 j → HasStatus shown r2 status → status ≡ status_of j
-whole_status tests maxfail r0 r1 r2 j out0 out1 shown status clock0 clock1 n c ran closed h =
-    status_is tests maxfail j shown (record { run = r1; sunk = out0; clock = clock0 }) (record { run = r2; sunk = out1; clock = clock1 }) (ended_as tests maxfail r0 r1 r2 j out0 out1 shown clock0 clock1 n c ran closed) status h
+pub whole_status : (tests : List Test) (maxfail : ℕ) (r0 r1 r2 : Running) (j : Journal) (out0 out1 : Option Sunk) (shown : Bool) (status : ℕ) (clock0 clock1 : Ticking) (ms : List RoundSeen)
+    → NothingCollected maxfail r0 → HasCollected tests r0 r1 → RanPrinted shown tests (record { run = r1; sunk = out0; clock = clock0 }) (record { run = r2; sunk = out1; clock = clock1 }) ms → ClosedJournal shown r2 j → HasStatus shown r2 status → status ≡ status_of j
+whole_status tests maxfail r0 r1 r2 j out0 out1 shown status clock0 clock1 ms n c ran closed h =
+    status_is tests maxfail j shown (record { run = r1; sunk = out0; clock = clock0 }) (record { run = r2; sunk = out1; clock = clock1 }) ms (ended_as tests maxfail r0 r1 r2 j out0 out1 shown clock0 clock1 ms n c ran closed) status h

@@ -1,5 +1,5 @@
 // A run without workers, from its first entry to its last.
-ghost use Rattle.std.specs.Prelude.{◌≡◌, ◌<◌, ◌≤◌, drop, length, IfOk, OnOk};
+ghost use Rattle.std.specs.Prelude.{◌≡◌, ◌<◌, ◌≤◌, ◌++◌, ◌∷◌, [], drop, length, IfOk, OnOk};
 ghost use Rattle.xd_edge.specs.Faults.{Counted};
 ghost use Rattle.xd_suite.specs.Tests.{run_at};
 ghost use Rattle.xd_journal.specs.Kept.{most_of_all, output_room};
@@ -10,7 +10,7 @@ ghost use Rattle.xd_report.specs.Follows.{Follows};
 ghost use Rattle.xd_report.specs.Lines.{lines_from};
 ghost use Rattle.xd_report.specs.Printing.{OnPrinted, ShowsEnd, ShowsLines};
 ghost use Rattle.xd_report.specs.Text.{tail_text};
-ghost use Rattle.xd_local.specs.Local.{local_settings, stop_after};
+ghost use Rattle.xd_local.specs.Local.{local_settings, rounds_seen, stop_after};
 ghost use Rattle.xd_local.specs.inner.Running.{AddsRound, ClosedJournal, HasCollected, HasStatus, WasCollected, NothingCollected, NotesTest};
 ghost use Rattle.xd_local.specs.inner.Running.{RanAll, RanPrinted, RanTest, FollowsJournal, after_journal, local_scene};
 
@@ -23,6 +23,7 @@ use xd_edge::{Children, Clock, Indices, ModeKind, OutOfMemory, Sink};
 use xd_journal::{Entry, Ids, Journal, MOST_OF_ALL, MOST_OF_ONE, RunStop, Settings};
 use xd_report::{PrintFault, Reporter, print_lines, print_tail};
 use xd_suite::Suite;
+use xd_trace::Moments;
 
 // A run without workers, as far as it came.
 #[derive(Drop)]
@@ -85,32 +86,36 @@ impl<K: Children> Run<K> {
         suite: &Suite,
         clock: &mut T,
         out: &mut O,
+        moments: &mut Moments<K, O>,
     ) -> Result<(), PrintFault>
         requires begun { WasCollected suite.now self.old }
         ensures ran { OnPrinted result (λ shown. RanPrinted shown suite.now
             (local_scene self.old (O.sunk out.old) (T.moment clock.old) (T.coming clock.old))
-            (local_scene self.new (O.sunk out.new) (T.moment clock.new) (T.coming clock.new))) }
+            (local_scene self.new (O.sunk out.new) (T.moment clock.new) (T.coming clock.new))
+            (rounds_seen K.runs O.sunk moments.new)) }
         ensures counted { OnPrinted result (λ shown.
             Counted shown (O.faults out.old) (O.faults out.new)) }
     {
-        self.run_tests(rt, suite, clock, out)?;
+        self.run_tests(rt, suite, clock, out, moments)?;
         self.print_end(out)?;
         Ok(())
     }
 
     // Prints the line of the collection, and runs the tests in order, up to the one that reaches the
-    // limit on failures.
+    // limit on failures. Notes after each line how the programs and the output stand.
     fn run_tests<R: Wait, T: Clock, O: Sink>(
         &mut self,
         rt: &R,
         suite: &Suite,
         clock: &mut T,
         out: &mut O,
+        moments: &mut Moments<K, O>,
     ) -> Result<(), PrintFault>
         requires begun { WasCollected suite.now self.old }
         ensures ran { OnPrinted result (λ shown. RanAll shown suite.now
             (local_scene self.old (O.sunk out.old) (T.moment clock.old) (T.coming clock.old))
-            (local_scene self.new (O.sunk out.new) (T.moment clock.new) (T.coming clock.new))) }
+            (local_scene self.new (O.sunk out.new) (T.moment clock.new) (T.coming clock.new))
+            (rounds_seen K.runs O.sunk moments.new)) }
         ensures counted { OnPrinted result (λ shown.
             Counted shown (O.faults out.old) (O.faults out.new)) }
     {
@@ -120,8 +125,17 @@ impl<K: Children> Run<K> {
                 return Ok(());
             }
             self.run_test(rt, suite, test, clock, out)?;
+            self.look(out, moments);
         }
         Ok(())
+    }
+
+    // Notes how the programs and the output stand.
+    fn look<O: Sink>(&self, out: &O, moments: &mut Moments<K, O>)
+        ensures { rounds_seen K.runs O.sunk moments.new ≡ rounds_seen K.runs O.sunk moments.old
+            ++ record { runs = self.now.programs.runs; sunk = O.sunk out.now } ∷ [] }
+    {
+        moments.look(&self.children, out);
     }
 
     // Whether the failures reached their limit.
@@ -224,12 +238,17 @@ impl<K: Children> Run<K> {
         print_tail(self.alloc, &self.journal, out)
     }
 
-    // The journal with its end, its exit status, and the programs.
-    pub fn close(mut self, shown: bool) -> Result<LocalRun<K>, OutOfMemory>
+    // The journal with its end, its exit status, the programs, and the moments.
+    pub fn close<O>(
+        mut self,
+        shown: bool,
+        moments: Moments<K, O>,
+    ) -> Result<LocalRun<K, O>, OutOfMemory>
         ensures closed { IfOk result (λ r. ClosedJournal shown self r.journal) }
         ensures status { IfOk result (λ r. HasStatus shown self r.status) }
         ensures children { IfOk result (λ r. self.programs ≡
             record { runs = K.runs r.children; faults = K.faults r.children }) }
+        ensures moments { IfOk result (λ r. r.moments ≡ moments) }
     {
         let how = stop_after(shown, self.reporter.first_stop());
         self.journal.push(Entry::Over { how })?;
@@ -237,6 +256,7 @@ impl<K: Children> Run<K> {
             journal: self.journal,
             status: self.reporter.status(how),
             children: self.children,
+            moments,
         })
     }
 }

@@ -24,7 +24,7 @@ use Rattle.xd_report.specs.Text.{text_of}
 use Rattle.xd_child.specs.declared.running.ChildResult.{ChildResult}
 use Rattle.xd_child.specs.Ending.{fault_count}
 use Rattle.xd_child.specs.Running.{RanChild}
-use Rattle.xd_local.specs.Local.{RanTests, kept_by, local_settings, stop_after}
+use Rattle.xd_local.specs.Local.{LinesCame, LinesInTime, RanTests, RoundSeen, kept_by, local_settings, stop_after}
 use Rattle.xd_local.specs.Outside.{Programs}
 use Rattle.xd_local.specs.Print.{AtStep, OutputFailedAt}
 use Rattle.xd_edge.specs.Clock.{Lasts, Ticking}
@@ -46,6 +46,10 @@ pub record LocalScene : Type 0 where
 -- these as one value, with the moments of the clock
 abbrev pub local_scene : Running → Option Sunk → ℕ → Option (List ℕ) → LocalScene
 local_scene run sunk moment coming = record { run = run; sunk = sunk; clock = record { moment = moment; coming = coming } }
+
+-- what is seen of its programs and its output
+abbrev pub round_at : LocalScene → RoundSeen
+round_at s = record { runs = s.run.programs.runs; sunk = s.sunk }
 
 -- the state after a journal
 abbrev pub after_journal : Journal → State
@@ -146,12 +150,13 @@ pub record SoFar (results : List TestResult) (tests : List Test) (old new : Runn
 
 -- `count` tests were run, and all lines so far were printed
 -- Example: two of three tests were run: the journal has their entries, and their lines were handed on.
-pub record Progress (count : ℕ) (tests : List Test) (old new : LocalScene) : Type 0 where
+pub record Progress (count : ℕ) (tests : List Test) (old new : LocalScene) (moments : List RoundSeen) : Type 0 where
   pub results : List TestResult
   pub so_far : SoFar results tests old.run new.run
   pub timed : AreTimed results old.clock new.clock
   pub counted : length results ≡ count
   pub spent_is : new.run.spent ≡ kept_by results
+  pub lines : LinesInTime old.run.journal.settings tests results (round_at old) moments
   pub shows : ShowsSome (run_lines new.run.journal.settings new.run.journal.entries.items) old.sunk new.sunk
   pub told : FollowsJournal new.run
 
@@ -166,19 +171,21 @@ ShowsReport true did_all j old new = ShowsEnd true (text_of j) old new
 ShowsReport false did_all j old new = OutputFailedAt did_all j.settings j.entries.items old new
 
 -- the run came to its end and its lines were printed, or the output failed at the collection or after a test
-pub record RanAll (shown : Bool) (tests : List Test) (old new : LocalScene) : Type 0 where
+pub record RanAll (shown : Bool) (tests : List Test) (old new : LocalScene) (moments : List RoundSeen) : Type 0 where
   pub results : List TestResult
   pub so_far : SoFar results tests old.run new.run
   pub timed : AreTimed results old.clock new.clock
+  pub lines : LinesCame (shown ≡ true) old.run.journal.settings tests results (round_at old) moments
   pub all : shown ≡ true → HasEnded old.run.journal.settings.maxfail tests results
   pub shows : ShowsSteps shown new.run.journal old.sunk new.sunk
   pub told : shown ≡ true → FollowsJournal new.run
 
 -- the same with the tail: the journal without its end, and the whole report
-pub record RanPrinted (shown : Bool) (tests : List Test) (old new : LocalScene) : Type 0 where
+pub record RanPrinted (shown : Bool) (tests : List Test) (old new : LocalScene) (moments : List RoundSeen) : Type 0 where
   pub results : List TestResult
   pub so_far : SoFar results tests old.run new.run
   pub timed : AreTimed results old.clock new.clock
+  pub lines : LinesCame (shown ≡ true) old.run.journal.settings tests results (round_at old) moments
   pub all : shown ≡ true → HasEnded old.run.journal.settings.maxfail tests results
   pub shows : ShowsReport shown (HasEnded old.run.journal.settings.maxfail tests results) new.run.journal old.sunk new.sunk
   pub told : shown ≡ true → FollowsJournal new.run
