@@ -2,6 +2,7 @@ pub mod Counting
 pub mod EndFacts
 pub mod Ending
 pub mod FateFacts
+pub mod Frames
 pub mod Keeping
 pub mod Killing
 pub mod Known

@@ -1,3 +1,4 @@
+pub mod Diaries
 pub mod Fates
 pub mod Few
 pub mod InStep

@@ -4,7 +4,6 @@ ghost use Rattle.std.specs.Str.{encode_utf8_all};
 ghost use Rattle.std.specs.List.{list_all};
 ghost use Rattle.xd_journal.specs.declared.entry.Entry.TheVariants.{Start, Kill};
 ghost use Rattle.xd_drive.specs.Calls.{is_order};
-ghost use Rattle.xd_drive.specs.Listed.{starts_of, others_of};
 ghost use Rattle.xd_journal.specs.Said.{is_breach};
 ghost use Rattle.xd_drive.specs.Marks.{marked_heard, marked_started, may_tell};
 ghost use Rattle.xd_trace.specs.Noted.{noted};
@@ -170,15 +169,14 @@ impl<St: Starter, C: Crew<Reader<St::Src>>> Hub for GatewayHub<St, C> {
 
     ghost made = { λ h. (h.group.suite, h.group.mode, h.places, h.children.first, h.group.first) };
 
-    ghost slots = { λ h. vec_len h.places };
+    ghost slots = { λ m. vec_len m.2 };
 
     ghost marks = { λ h w. marks_told (noted h.group.diary.calls) (noted h.group.diary.given) w };
 
-    ghost starts = { λ h. Some (starts_of (noted h.group.diary.calls)) };
-
-    ghost calls = { λ h. Some (others_of (noted h.group.diary.calls)) };
-
-    ghost given = { λ h. Some (noted h.group.diary.given) };
+    ghost seen = { λ h. Some (record {
+      calls = noted h.group.diary.calls;
+      given = noted h.group.diary.given;
+    }) };
 
     fn start(&mut self, alloc: Global, worker: u32, slot: u32) -> Result<(), OutOfMemory>
         requires new { (marks_told (noted self.old.group.diary.calls)
@@ -193,12 +191,7 @@ impl<St: Starter, C: Crew<Reader<St::Src>>> Hub for GatewayHub<St, C> {
             ++ Start worker slot ∷ []) }
         ensures given { OnOk result
             (noted self.new.group.diary.given ≡ noted self.old.group.diary.given) }
-        ensures first { (self.new.places ≡ self.old.places)
-            × (self.new.children.first ≡ self.old.children.first)
-            × (self.new.group.first ≡ self.old.group.first) }
         ensures whole { OnOk result (self.new.group.is_whole ≡ self.old.group.is_whole) }
-        ensures made { (self.new.group.suite ≡ self.old.group.suite)
-            × (self.new.group.mode ≡ self.old.group.mode) }
     {
         let number = self.children.children.len();
         match self.children.start(alloc, &self.places[slot as usize])? {
@@ -228,12 +221,7 @@ impl<St: Starter, C: Crew<Reader<St::Src>>> Hub for GatewayHub<St, C> {
             ++ order.now ∷ []) }
         ensures given { OnOk result
             (noted self.new.group.diary.given ≡ noted self.old.group.diary.given) }
-        ensures first { (self.new.places ≡ self.old.places)
-            × (self.new.children.first ≡ self.old.children.first)
-            × (self.new.group.first ≡ self.old.group.first) }
         ensures whole { OnOk result (self.new.group.is_whole ≡ self.old.group.is_whole) }
-        ensures made { (self.new.group.suite ≡ self.old.group.suite)
-            × (self.new.group.mode ≡ self.old.group.mode) }
     {
         let cut = self.group.say(alloc, worker, order)?;
         self.children.cut(cut);
@@ -248,12 +236,7 @@ impl<St: Starter, C: Crew<Reader<St::Src>>> Hub for GatewayHub<St, C> {
         ensures called { noted self.new.group.diary.calls ≡ noted self.old.group.diary.calls
             ++ Kill worker ∷ [] }
         ensures given { noted self.new.group.diary.given ≡ noted self.old.group.diary.given }
-        ensures first { (self.new.places ≡ self.old.places)
-            × (self.new.children.first ≡ self.old.children.first)
-            × (self.new.group.first ≡ self.old.group.first) }
         ensures whole { self.new.group.is_whole ≡ self.old.group.is_whole }
-        ensures made { (self.new.group.suite ≡ self.old.group.suite)
-            × (self.new.group.mode ≡ self.old.group.mode) }
     {
         let cut = self.group.kill(worker);
         self.children.cut(cut);
@@ -273,12 +256,7 @@ impl<St: Starter, C: Crew<Reader<St::Src>>> Hub for GatewayHub<St, C> {
             noted self.new.group.diary.given ≡ noted self.old.group.diary.given ++ n ∷ []) }
         ensures calls { OnOk result
             (noted self.new.group.diary.calls ≡ noted self.old.group.diary.calls) }
-        ensures first { (self.new.places ≡ self.old.places)
-            × (self.new.children.first ≡ self.old.children.first)
-            × (self.new.group.first ≡ self.old.group.first) }
         ensures whole { OnOk result (self.new.group.is_whole ≡ self.old.group.is_whole) }
-        ensures made { (self.new.group.suite ≡ self.old.group.suite)
-            × (self.new.group.mode ≡ self.old.group.mode) }
     {
         if let Some(news) = self.group.next_unlinked() {
             return Ok(news);

@@ -72,6 +72,7 @@ impl<S: Source + Drop, N: Sink + Drop, C: Crew<Reader<S>>> Group<S, N, C> {
     ghost use Rattle.xd_drive.specs.Calls.{is_order};
     ghost use Rattle.xd_journal.specs.Said.{is_breach};
     ghost use Rattle.xd_drive.specs.Marks.{may_tell};
+    ghost use Rattle.xd_group.specs.Diaries.{SameStarts};
     ghost use Rattle.xd_group.specs.Tells.{IsStarted, marks_told};
     ghost use Rattle.xd_journal.specs.declared.entry.Entry.TheVariants.{Kill};
     ghost use Rattle.xd_group.specs.Unsaid.{SaysNext};
@@ -91,8 +92,7 @@ impl<S: Source + Drop, N: Sink + Drop, C: Crew<Reader<S>>> Group<S, N, C> {
         ensures called { OnOk result
             (noted self.new.diary.calls ≡ noted self.old.diary.calls ++ order.now ∷ []) }
         ensures given { noted self.new.diary.given ≡ noted self.old.diary.given }
-        ensures starts { (self.new.diary.workers ≡ self.old.diary.workers)
-            × (self.new.diary.fates ≡ self.old.diary.fates) }
+        ensures starts { SameStarts self.old.diary self.new.diary }
         ensures whole { OnOk result (self.new.is_whole ≡ self.old.is_whole) }
         ensures over { OnErr result (self.new.is_whole ≡ false) }
         ensures cut { IfOk result (λ cut.
@@ -126,8 +126,7 @@ impl<S: Source + Drop, N: Sink + Drop, C: Crew<Reader<S>>> Group<S, N, C> {
         ensures no_breach { IfOk result (λ r. IfSome r.news (λ n. is_breach n.what ≡ false)) }
         ensures waiting { self.new.diary.waiting ≡ self.old.diary.waiting }
         ensures calls { noted self.new.diary.calls ≡ noted self.old.diary.calls }
-        ensures starts { (self.new.diary.workers ≡ self.old.diary.workers)
-            × (self.new.diary.fates ≡ self.old.diary.fates) }
+        ensures starts { SameStarts self.old.diary self.new.diary }
         ensures whole { OnOk result (self.new.is_whole ≡ self.old.is_whole) }
         ensures over { OnErr result (self.new.is_whole ≡ false) }
         ensures cut { IfOk result (λ r.
@@ -165,8 +164,7 @@ impl<S: Source + Drop, N: Sink + Drop, C: Crew<Reader<S>>> Group<S, N, C> {
         ensures peers { self.new.peers ≡ self.old.peers }
         ensures made { (self.new.suite ≡ self.old.suite) × (self.new.mode ≡ self.old.mode)
             × (self.new.first ≡ self.old.first) }
-        ensures starts { (self.new.diary.workers ≡ self.old.diary.workers)
-            × (self.new.diary.fates ≡ self.old.diary.fates) }
+        ensures starts { SameStarts self.old.diary self.new.diary }
     {
         self.diary.note_call(&Entry::Kill { worker });
         self.diary.place_of(worker)
@@ -183,8 +181,7 @@ impl<S: Source + Drop, N: Sink + Drop, C: Crew<Reader<S>>> Group<S, N, C> {
             noted self.new.diary.given ≡ noted self.old.diary.given ++ n ∷ []) }
         ensures silent { IfNone result (noted self.new.diary.given ≡ noted self.old.diary.given) }
         ensures calls { noted self.new.diary.calls ≡ noted self.old.diary.calls }
-        ensures starts { (self.new.diary.workers ≡ self.old.diary.workers)
-            × (self.new.diary.fates ≡ self.old.diary.fates) }
+        ensures starts { SameStarts self.old.diary self.new.diary }
         ensures whole { self.new.is_whole ≡ self.old.is_whole }
         ensures peers { self.new.peers ≡ self.old.peers }
         ensures made { (self.new.suite ≡ self.old.suite) × (self.new.mode ≡ self.old.mode)
