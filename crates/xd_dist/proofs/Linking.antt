@@ -20,6 +20,7 @@ use Rattle.xd_drive.specs.declared.running.DrivenRun.{DrivenRun}
 use Rattle.xd_drive.specs.Driven.{Broken, IsJournalOf, Whole}
 use Rattle.xd_drive.specs.Listed.{is_listed, starts_of}
 use Rattle.xd_drive.specs.Marks.{no_marks}
+use Rattle.xd_drive.specs.Seen.{HubScene}
 use Rattle.xd_starts.specs.Children.{AskedOfLink, ToldByStarter, link_asked, told_of}
 use Rattle.xd_group.specs.Fates.{has_link, is_linked, is_refused, is_unlinked, workers_with}
 use Rattle.xd_group.specs.Few.{RoseFor, count_with}
@@ -35,17 +36,17 @@ use Rattle.xd_dist.specs.Linked.{DrivesTo, EndedLink, LinkedRun, RunsLinked, Lin
 pub unmarked : (calls : List Entry) (given : List News) → calls ≡ [] → given ≡ [] → (w : ℕ) → marks_told calls given w ≡ no_marks
 unmarked calls given c g w = rw (c, g) refl
 
-pub whole_from : (j : Journal) (first calls : List Entry) (was given : List News) (s0 s1 : Option Sunk) → first ≡ [] → was ≡ [] → (taken : List News) × Whole taken j (scene_told first was s0) (scene_told calls given s1)
-    → (taken : List News) × Whole taken j (scene_told [] [] s0) (scene_told calls given s1)
-whole_from j first calls was given s0 s1 c g w =
-    subst (λ (f : List Entry). (taken : List News) × Whole taken j (scene_told f [] s0) (scene_told calls given s1)) c
-    (subst (λ (n : List News). (taken : List News) × Whole taken j (scene_told first n s0) (scene_told calls given s1)) g w)
+pub whole_from : (j : Journal) (first calls : List Entry) (was given : List News) (s0 s1 : Option Sunk) (ms : List HubScene) → first ≡ [] → was ≡ [] → (taken : List News) × Whole taken j (scene_told first was s0) (scene_told calls given s1) ms
+    → (taken : List News) × Whole taken j (scene_told [] [] s0) (scene_told calls given s1) ms
+whole_from j first calls was given s0 s1 ms c g w =
+    subst (λ (f : List Entry). (taken : List News) × Whole taken j (scene_told f [] s0) (scene_told calls given s1) ms) c
+    (subst (λ (n : List News). (taken : List News) × Whole taken j (scene_told first n s0) (scene_told calls given s1) ms) g w)
 
-pub broken_from : (j : Journal) (first calls : List Entry) (was given : List News) (s0 s1 : Option Sunk) → first ≡ [] → was ≡ [] → (count : ℕ) × (taken : List News) × Broken count taken j (scene_told first was s0) (scene_told calls given s1)
-    → (count : ℕ) × (taken : List News) × Broken count taken j (scene_told [] [] s0) (scene_told calls given s1)
-broken_from j first calls was given s0 s1 c g w =
-    subst (λ (f : List Entry). (count : ℕ) × (taken : List News) × Broken count taken j (scene_told f [] s0) (scene_told calls given s1)) c
-    (subst (λ (n : List News). (count : ℕ) × (taken : List News) × Broken count taken j (scene_told first n s0) (scene_told calls given s1)) g w)
+pub broken_from : (j : Journal) (first calls : List Entry) (was given : List News) (s0 s1 : Option Sunk) (ms : List HubScene) → first ≡ [] → was ≡ [] → (count : ℕ) × (taken : List News) × Broken count taken j (scene_told first was s0) (scene_told calls given s1) ms
+    → (count : ℕ) × (taken : List News) × Broken count taken j (scene_told [] [] s0) (scene_told calls given s1) ms
+broken_from j first calls was given s0 s1 ms c g w =
+    subst (λ (f : List Entry). (count : ℕ) × (taken : List News) × Broken count taken j (scene_told f [] s0) (scene_told calls given s1) ms) c
+    (subst (λ (n : List News). (count : ℕ) × (taken : List News) × Broken count taken j (scene_told first n s0) (scene_told calls given s1) ms) g w)
 
 -- what a starter tells at last, by what it told at first
 pub begun_from : (first : Option Begun) (now : Option ToldByStarter) (more : List StartRun) (asked : List AskedOfLink) → now ≡ option_map (λ b. record { starts = b.starts ++ more; links = map link_asked b.links ++ asked }) first
@@ -55,16 +56,16 @@ begun_from (Some b) now more asked e = e
 
 -- a run by what the hub took and gave and what its links left
 pub runs_linked : {A : Type 0} (seen : A → EndedLink) (ends : List A) (setup : Setup) (now : List ℕ) (mode : ModeKind) (j : Journal) (calls : List Entry) (given : List News) (workers : List ℕ) (fates : List Fate) (places : List Place)
-    (first : Option Begun) (last : Option ToldByStarter) (starter_old starter_new crew_old crew_new out_old out_new : ℕ) (s0 s1 : Option Sunk)
-    → now ≡ setup.suite → mode ≡ setup.settings.mode → workers ≡ workers_started calls → places ≡ setup.places → DrivesTo j calls given s0 s1
+    (first : Option Begun) (last : Option ToldByStarter) (starter_old starter_new crew_old crew_new out_old out_new : ℕ) (s0 s1 : Option Sunk) (ms : List HubScene)
+    → now ≡ setup.suite → mode ≡ setup.settings.mode → workers ≡ workers_started calls → places ≡ setup.places → DrivesTo j calls given s0 s1 ms
     → map (λ a. (seen a).worker) ends ≡ workers_with has_link workers fates
     → All (λ a. ∥ RanSo now mode given calls (workers_with is_refused workers fates) (seen a).worker (seen a).link ∥₁) ends
     → last ≡ option_map (λ b. record { starts = b.starts ++ all_started places (starts_of calls) fates; links = map link_asked b.links ++ map (λ a. end_told (seen a).killed) ends }) first
     → All (λ a. ∥ EndKilledSo calls given (workers_with is_refused workers fates) (seen a).worker (seen a).killed (seen a).link.writes ∥₁) ends
     → ((w : ℕ) → is_listed w (workers_with is_linked workers fates) ≡ false → ∥ SaidUnlinked given w ∥₁)
     → RoseFor (count_with is_refused fates) crew_old crew_new → RoseBy (count_with is_unlinked fates) starter_old starter_new
-    → RunsLinked setup j (map seen ends) (record { begun = option_map told_of first; starter_faults = starter_old; crew_faults = crew_old; sunk = s0; out_faults = out_old }) (record { begun = last; starter_faults = starter_new; crew_faults = crew_new; sunk = s1; out_faults = out_new })
-runs_linked {A} seen ends setup now mode j calls given workers fates places first last starter_old starter_new crew_old crew_new out_old out_new s0 s1 same in_mode listed at drives all each begun killed unlinked refused failed = record {
+    → RunsLinked setup j (map seen ends) (record { begun = option_map told_of first; starter_faults = starter_old; crew_faults = crew_old; sunk = s0; out_faults = out_old }) (record { begun = last; starter_faults = starter_new; crew_faults = crew_new; sunk = s1; out_faults = out_new }) ms
+runs_linked {A} seen ends setup now mode j calls given workers fates places first last starter_old starter_new crew_old crew_new out_old out_new s0 s1 ms same in_mode listed at drives all each begun killed unlinked refused failed = record {
   calls = calls;
   given = given;
   fates = fates;
@@ -85,20 +86,20 @@ runs_linked {A} seen ends setup now mode j calls given workers fates places firs
 }
 
 -- what is seen of a hub that stayed as it was, where the run came to its end
-pub seen_as : {Ends E H : Type 0} (ended : Result (DrivenRun × Ends) E) (seen : Ends → List EndedLink) (setup : Setup) (old : LinksSeen) (f : H → LinksSeen) (before after : H) → OnOk ended (after ≡ before)
-    → IfOk ended (λ r. RunsLinked setup r.0.journal (seen r.1) old (f before)) → IfOk ended (λ r. RunsLinked setup r.0.journal (seen r.1) old (f after))
-seen_as {H = H} (Ok r) seen setup old f before after same runs = subst (λ (h : H). RunsLinked setup r.0.journal (seen r.1) old (f h)) (sym same) runs
-seen_as (Err e) seen setup old f before after same runs = tt
+pub seen_as : {Ends E H Hub Out : Type 0} (ended : Result (DrivenRun Hub Out × Ends) E) (seen : Ends → List EndedLink) (at : DrivenRun Hub Out → List HubScene) (setup : Setup) (old : LinksSeen) (f : H → LinksSeen) (before after : H) → OnOk ended (after ≡ before)
+    → IfOk ended (λ r. RunsLinked setup r.0.journal (seen r.1) old (f before) (at r.0)) → IfOk ended (λ r. RunsLinked setup r.0.journal (seen r.1) old (f after) (at r.0))
+seen_as {H = H} (Ok r) seen at setup old f before after same runs = subst (λ (h : H). RunsLinked setup r.0.journal (seen r.1) old (f h) (at r.0)) (sym same) runs
+seen_as (Err e) seen at setup old f before after same runs = tt
 
 -- a run by what was driven and what its links left
-pub linked_run : {Ends E : Type 0} (ended : Result (DrivenRun × Ends) E) (seen : Ends → List EndedLink) (now setup : Setup) (old new : LinksSeen) (j : Journal) (ends : Ends) (code : ℕ)
-    → now ≡ setup → ended ≡ Ok (record { journal = j; status = code }, ends) → IfOk ended (λ r. r.0.status ≡ status_of r.0.journal)
-    → IfOk ended (λ r. IsJournalOf now.settings r.0.journal) → IfOk ended (λ r. RunsLinked now r.0.journal (seen r.1) old new)
+pub linked_run : {Ends E Hub Out : Type 0} (ended : Result (DrivenRun Hub Out × Ends) E) (seen : Ends → List EndedLink) (at : DrivenRun Hub Out → List HubScene) (now setup : Setup) (old new : LinksSeen) (driven : DrivenRun Hub Out) (ends : Ends)
+    → now ≡ setup → ended ≡ Ok (driven, ends) → IfOk ended (λ r. r.0.status ≡ status_of r.0.journal)
+    → IfOk ended (λ r. IsJournalOf now.settings r.0.journal) → IfOk ended (λ r. RunsLinked now r.0.journal (seen r.1) old new (at r.0))
     → IfOk ended (λ r. Counted (not (is_out_fault (stop_of r.0.journal))) old.out_faults new.out_faults)
-    → LinkedRun setup j code (seen ends) old new
-linked_run {Ends} {E} ended seen now setup old new j ends code same e status journal runs counted = record {
-  journal = subst (λ (s : Setup). IsJournalOf s.settings j) same (IfOk-at_ok (λ (r : DrivenRun × Ends). IsJournalOf now.settings r.0.journal) e journal);
-  status = IfOk-at_ok (λ (r : DrivenRun × Ends). r.0.status ≡ status_of r.0.journal) e status;
-  runs = subst (λ (s : Setup). RunsLinked s j (seen ends) old new) same (IfOk-at_ok (λ (r : DrivenRun × Ends). RunsLinked now r.0.journal (seen r.1) old new) e runs);
-  counted = IfOk-at_ok (λ (r : DrivenRun × Ends). Counted (not (is_out_fault (stop_of r.0.journal))) old.out_faults new.out_faults) e counted;
+    → LinkedRun setup driven.journal driven.status (seen ends) old new (at driven)
+linked_run {Ends} {E} {Hub} {Out} ended seen at now setup old new driven ends same e status journal runs counted = record {
+  journal = subst (λ (s : Setup). IsJournalOf s.settings driven.journal) same (IfOk-at_ok (λ (r : DrivenRun Hub Out × Ends). IsJournalOf now.settings r.0.journal) e journal);
+  status = IfOk-at_ok (λ (r : DrivenRun Hub Out × Ends). r.0.status ≡ status_of r.0.journal) e status;
+  runs = subst (λ (s : Setup). RunsLinked s driven.journal (seen ends) old new (at driven)) same (IfOk-at_ok (λ (r : DrivenRun Hub Out × Ends). RunsLinked now r.0.journal (seen r.1) old new (at r.0)) e runs);
+  counted = IfOk-at_ok (λ (r : DrivenRun Hub Out × Ends). Counted (not (is_out_fault (stop_of r.0.journal))) old.out_faults new.out_faults) e counted;
 }

@@ -11,12 +11,12 @@ ghost use Rattle.xd_session.specs.Stands.{CanBegin, StandsForNews};
 ghost use Rattle.xd_run.specs.State.{no_one};
 ghost use Rattle.std.specs.List.{list_all};
 ghost use Rattle.xd_starts.specs.Children.{is_killed_and_reaped};
-ghost use Rattle.xd_dist.specs.Linked.{LinkedRun, RunsLinked, ended_links, links_seen, setup_of};
+ghost use Rattle.xd_dist.specs.Linked.{LinkedRun, RunsLinked, ended_links, links_seen, scenes_told, setup_of};
 
 use std::alloc::Global;
 use std::sync::Wait;
 use xd_crew::Crew;
-use xd_drive::{DrivenRun, NoWitness, drive};
+use xd_drive::{DrivenRun, drive};
 use xd_edge::{ModeKind, OutOfMemory, Sink, Text};
 use xd_group::{GatewayHub, Group, LinkEnd};
 use xd_journal::{Journal, Settings};
@@ -29,6 +29,7 @@ use xd_scope::Scope;
 use xd_session::Session;
 use xd_starts::Children;
 use xd_steal::Steal;
+use xd_trace::Moments;
 
 /// A suite that is to be run on workers.
 #[derive(Drop)]
@@ -42,7 +43,7 @@ pub struct LinkedSuite {
 
 /// What a run with workers came to.
 #[derive(Drop)]
-pub struct Linked<St: Starter, C: Crew<Reader<St::Src>>> {
+pub struct Linked<St: Starter, C: Crew<Reader<St::Src>>, O> {
     /// The exit status.
     pub status: u8,
     pub journal: Journal,
@@ -50,6 +51,8 @@ pub struct Linked<St: Starter, C: Crew<Reader<St::Src>>> {
     pub links: Vec<LinkEnd<St::Src, St::Snk>>,
     pub starter: St,
     pub crew: C,
+    /// How the hub and the output stood after the lines of each piece of news. Clauses alone read it.
+    pub moments: Moments<GatewayHub<St, C>, O>,
 }
 
 // Drives the session over the hub, and ends its links.
@@ -59,7 +62,13 @@ fn run_over<R: Wait, M: Mode, St: Starter, C: Crew<Reader<St::Src>>, O: Sink>(
     session: Session<M>,
     hub: &mut GatewayHub<St, C>,
     out: &mut O,
-) -> Result<(DrivenRun, Vec<LinkEnd<St::Src, St::Snk>>), OutOfMemory>
+) -> Result<
+    (
+        DrivenRun<GatewayHub<St, C>, O>,
+        Vec<LinkEnd<St::Src, St::Snk>>,
+    ),
+    OutOfMemory,
+>
     requires begins { StandsForNews [] session }
     requires slots { session.settings.workers ≤ vec_len hub.old.places }
     requires no_calls { noted hub.old.group.diary.calls ≡ [] }
@@ -79,21 +88,29 @@ fn run_over<R: Wait, M: Mode, St: Starter, C: Crew<Reader<St::Src>>, O: Sink>(
         (links_seen (St.begun hub.old.children.first.value) (St.faults hub.old.children.first.value)
         (C.faults hub.old.group.first.value) (O.sunk out.old) (O.faults out.old))
         (links_seen (St.begun hub.new.children.starter) (St.faults hub.new.children.starter)
-        (C.faults hub.new.group.links.crew) (O.sunk out.new) (O.faults out.new))) }
+        (C.faults hub.new.group.links.crew) (O.sunk out.new) (O.faults out.new))
+        (scenes_told (λ h. noted h.group.diary.calls) (λ h. noted h.group.diary.given)
+        O.sunk r.0.moments)) }
     ensures counted { IfOk result (λ r.
         Counted (not (is_out_fault (stop_of r.0.journal))) (O.faults out.old) (O.faults out.new)) }
     ensures later { O.faults out.old ≤ O.faults out.new }
 {
-    let driven = drive(rt, alloc, session, hub, out, &mut NoWitness)?;
+    let driven = drive(rt, alloc, session, hub, out)?;
     let links = hub.finish(rt, alloc)?;
     Ok((driven, links))
 }
 
 // Where memory ran out: kills the workers that are left, and waits for their ends.
-fn end_workers<R: Wait, St: Starter, C: Crew<Reader<St::Src>>>(
+fn end_workers<R: Wait, St: Starter, C: Crew<Reader<St::Src>>, O>(
     rt: &R,
     hub: &mut GatewayHub<St, C>,
-    ended: &Result<(DrivenRun, Vec<LinkEnd<St::Src, St::Snk>>), OutOfMemory>,
+    ended: &Result<
+        (
+            DrivenRun<GatewayHub<St, C>, O>,
+            Vec<LinkEnd<St::Src, St::Snk>>,
+        ),
+        OutOfMemory,
+    >,
 )
     ensures same { OnOk ended.now (hub.new ≡ hub.old) }
     ensures over { OnErr ended.now
@@ -105,13 +122,25 @@ fn end_workers<R: Wait, St: Starter, C: Crew<Reader<St::Src>>>(
 }
 
 // What the run came to, with the starter and the crew.
-fn end_of<St: Starter, C: Crew<Reader<St::Src>>>(
-    ended: Result<(DrivenRun, Vec<LinkEnd<St::Src, St::Snk>>), OutOfMemory>,
+fn end_of<St: Starter, C: Crew<Reader<St::Src>>, O>(
+    ended: Result<
+        (
+            DrivenRun<GatewayHub<St, C>, O>,
+            Vec<LinkEnd<St::Src, St::Snk>>,
+        ),
+        OutOfMemory,
+    >,
     starter: St,
     crew: C,
-) -> Result<Linked<St, C>, OutOfMemory>
-    ensures ended { IfOk result (λ e.
-        ended ≡ Ok (record { journal = e.journal; status = e.status }, e.links)) }
+) -> Result<Linked<St, C, O>, OutOfMemory>
+    ensures ended { IfOk result (λ e. ended ≡ Ok (
+      record {
+        journal = e.journal;
+        status = e.status;
+        moments = e.moments;
+      },
+      e.links,
+    )) }
     ensures starter { IfOk result (λ e. e.starter ≡ starter) }
     ensures crew { IfOk result (λ e. e.crew ≡ crew) }
 {
@@ -122,6 +151,7 @@ fn end_of<St: Starter, C: Crew<Reader<St::Src>>>(
         links,
         starter,
         crew,
+        moments: driven.moments,
     })
 }
 
@@ -133,7 +163,7 @@ pub fn run_linked<R: Wait, St: Starter, C: Crew<Reader<St::Src>>, O: Sink>(
     starter: St,
     crew: C,
     out: &mut O,
-) -> Result<Linked<St, C>, OutOfMemory>
+) -> Result<Linked<St, C, O>, OutOfMemory>
     requires settings { CanBegin suite.settings }
     requires slots { suite.settings.workers ≤ vec_len suite.places }
     requires short { length (encode_utf8_all suite.path) ≤ 65536 }
@@ -143,7 +173,9 @@ pub fn run_linked<R: Wait, St: Starter, C: Crew<Reader<St::Src>>, O: Sink>(
         (links_seen (St.begun starter) (St.faults starter)
         (C.faults crew) (O.sunk out.old) (O.faults out.old))
         (links_seen (St.begun e.starter) (St.faults e.starter)
-        (C.faults e.crew) (O.sunk out.new) (O.faults out.new))) }
+        (C.faults e.crew) (O.sunk out.new) (O.faults out.new))
+        (scenes_told (λ h. noted h.group.diary.calls) (λ h. noted h.group.diary.given)
+        O.sunk e.moments)) }
     ensures later { O.faults out.old ≤ O.faults out.new }
 {
     let Settings {
@@ -180,7 +212,7 @@ fn run_in<R: Wait, M: Mode, St: Starter, C: Crew<Reader<St::Src>>, O: Sink>(
     starter: St,
     crew: C,
     out: &mut O,
-) -> Result<Linked<St, C>, OutOfMemory>
+) -> Result<Linked<St, C, O>, OutOfMemory>
     requires settings { CanBegin suite.settings }
     requires fresh { M.stands mode (no_one suite.settings).plan }
     requires slots { suite.settings.workers ≤ vec_len suite.places }
@@ -191,7 +223,9 @@ fn run_in<R: Wait, M: Mode, St: Starter, C: Crew<Reader<St::Src>>, O: Sink>(
         (links_seen (St.begun starter) (St.faults starter)
         (C.faults crew) (O.sunk out.old) (O.faults out.old))
         (links_seen (St.begun e.starter) (St.faults e.starter)
-        (C.faults e.crew) (O.sunk out.new) (O.faults out.new))) }
+        (C.faults e.crew) (O.sunk out.new) (O.faults out.new))
+        (scenes_told (λ h. noted h.group.diary.calls) (λ h. noted h.group.diary.given)
+        O.sunk e.moments)) }
     ensures later { O.faults out.old ≤ O.faults out.new }
 {
     let LinkedSuite {
