@@ -1,12 +1,18 @@
 -- What the top call came to, by what the words ask for.
-use Rattle.std.specs.Prelude.{ℕ, ◌≡◌, Bool, true, false, List, Option, None}
+use Rattle.std.specs.Prelude.{ℕ, ◌≡◌, Bool, true, false, List, [], Option, Some, None}
+use Rattle.xd_edge.specs.Sink.{Sunk}
+use Rattle.xd_trace.specs.declared.moments.Moments.{Moments}
+use Rattle.xd_journal.specs.declared.entry.Entry.{Entry}
+use Rattle.xd_journal.specs.declared.news.News.{News}
+use Rattle.xd_drive.specs.Seen.{HubScene}
+use Rattle.xd_local.specs.Local.{RoundSeen}
 use Rattle.xd_journal.specs.declared.journal.Journal.{Journal}
 use Rattle.xd_link.specs.declared.place.Place.{Place}
 use Rattle.xd_link.specs.declared.place.Place.TheVariants.{Listen, Own}
 use Rattle.xd_top.specs.declared.refusal.Refusal.TheVariants as refusal
 use Rattle.xd_top.specs.Linked.{DidLinked}
 use Rattle.xd_top.specs.Named.{DidLocal, around}
-use Rattle.xd_dist.specs.Linked.{EndedLink}
+use Rattle.xd_dist.specs.Linked.{EndedLink, scenes_told}
 use Rattle.xd_top.specs.Outside.{Outside, workplace}
 use Rattle.xd_top.specs.Refusal.{Refuses}
 use Rattle.xd_top.specs.Wire.{DidWire}
@@ -15,11 +21,21 @@ use Rattle.xd_words.specs.declared.plan.Plan.{Plan}
 use Rattle.xd_words.specs.declared.plan.Plan.TheVariants.{Linked, Local, Refused, SocketServer, Wire, Worker}
 use Rattle.xd_words.specs.declared.refusal.WordsRefusal.{WordsRefusal}
 
--- what the call hands back: the exit status, the journal of the run, where one was begun, and the links that were started
+-- what the call hands back: the exit status, the journal of the run, where one was begun, the links that were started, how the
+-- hub of a run on workers and the output stood after the lines of each piece of news, and how the programs of a run without
+-- workers and the output stood after the line of each test
 pub record End : Type 0 where
   pub status : ℕ
   pub journal : Option Journal
   pub links : List EndedLink
+  pub turns : List HubScene
+  pub tests : List RoundSeen
+
+module _ {H O : Type 0} (calls : H → List Entry) (given : H → List News) (sunk : O → Option Sunk) where
+  -- what was seen of a hub and the output at these moments, where there are any
+  abbrev pub turns_seen : Option (Moments H O) → List HubScene
+  turns_seen None = []
+  turns_seen (Some m) = scenes_told calls given sunk m
 
 -- wire: no run
 pub record Messages (file : List ℕ) (end : End) (old new : Outside) : Type 0 where
@@ -41,9 +57,9 @@ pub record RefusesWords (why : WordsRefusal) (end : End) (old new : Outside) : T
 -- The call did what the words ask for.
 abbrev pub Did : Plan → End → Outside → Outside → Type 0
 Did (Local suite maxfail) end old new =
-    DidLocal (record { suite = suite; maxfail = maxfail }) (record { journal = end.journal; status = end.status }) (around old) (around new)
+    DidLocal (record { suite = suite; maxfail = maxfail }) (record { journal = end.journal; status = end.status; moments = end.tests }) (around old) (around new)
 Did (Linked suite settings places) end old new =
-    DidLinked (record { suite = suite; settings = settings; places = places }) end.journal end.status end.links old new
+    DidLinked (record { suite = suite; settings = settings; places = places }) end.journal end.status end.links end.turns old new
 Did (Wire file) end old new = Messages file end old new
 Did Worker end old new = Serves Own end old new
 Did (SocketServer host port) end old new = Serves (Listen host port) end old new

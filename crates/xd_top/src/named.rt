@@ -1,7 +1,7 @@
 // `SUITE -n 0`: the suite file is read, and its tests are run in the program itself.
 ghost use Rattle.std.specs.Prelude.{◌≡◌, IfOk, IfNone, MatchResult};
 ghost use Rattle.xd_edge.specs.Faults.{Rose};
-ghost use Rattle.xd_top.specs.Named.{DidLocal};
+ghost use Rattle.xd_top.specs.Named.{DidLocal, tests_seen};
 ghost use Rattle.xd_top.specs.Refusal.{FilesCount, HasSuite, WhySuiteRefused};
 
 use crate::refusal::{Refusal, refuse};
@@ -11,6 +11,7 @@ use xd_edge::{Children, Clock, FileFault, Files, MAX_SUITE_BYTES, OutOfMemory, S
 use xd_journal::Journal;
 use xd_local::{LocalSuite, run_suite};
 use xd_suite::{Suite, SuiteFault, SuiteRefusal, SuiteWhat};
+use xd_trace::Moments;
 
 const TOO_LARGE: SuiteFault = SuiteFault {
     test: None,
@@ -28,13 +29,14 @@ pub struct LocalFile<K: Children> {
     pub children: K,
 }
 
-/// What such a command came to: its exit status, the journal of the run, where one was begun, and the programs that were
-/// handed in.
+/// What such a command came to: its exit status, the journal of the run, where one was begun, the programs that were
+/// handed in, and how these and the output stood after the line of each test.
 #[derive(Drop)]
-pub struct LocalEnd<K: Children> {
+pub struct LocalEnd<K: Children, O> {
     pub status: u8,
     pub journal: Option<Journal>,
     pub children: K,
+    pub moments: Option<Moments<K, O>>,
 }
 
 /// Runs the tests of the suite file, or says why it is refused.
@@ -45,9 +47,13 @@ pub fn run_named<R: Wait, F: Files, K: Children, T: Clock, O: Sink, E: Sink>(
     clock: &mut T,
     out: &mut O,
     err: &mut E,
-) -> Result<LocalEnd<K>, OutOfMemory>
+) -> Result<LocalEnd<K, O>, OutOfMemory>
     ensures did { IfOk result (λ e. DidLocal (record { suite = file.suite; maxfail = file.maxfail })
-        (record { journal = e.journal; status = e.status })
+        (record {
+          journal = e.journal;
+          status = e.status;
+          moments = tests_seen K.runs O.sunk e.moments;
+        })
         (record {
           streams = record {
             files = record { held = F.held files.old; faults = F.faults files.old };
@@ -82,6 +88,7 @@ pub fn run_named<R: Wait, F: Files, K: Children, T: Clock, O: Sink, E: Sink>(
                 status: run.status,
                 journal: Some(run.journal),
                 children: run.children,
+                moments: Some(run.moments),
             })
         }
         Err(why) => {
@@ -90,6 +97,7 @@ pub fn run_named<R: Wait, F: Files, K: Children, T: Clock, O: Sink, E: Sink>(
                 status,
                 journal: None,
                 children: file.children,
+                moments: None,
             })
         }
     }

@@ -2,7 +2,9 @@
 ghost use Rattle.std.specs.Prelude.{◌≡◌, [], false, IfNone, IfOk};
 ghost use Rattle.xd_dist.specs.Linked.{ended_links};
 ghost use Rattle.xd_edge.specs.Clock.{ticking};
-ghost use Rattle.xd_top.specs.Top.{Did, has_links};
+ghost use Rattle.xd_trace.specs.Noted.{noted};
+ghost use Rattle.xd_top.specs.Named.{tests_seen};
+ghost use Rattle.xd_top.specs.Top.{Did, has_links, turns_seen};
 ghost use Rattle.xd_words.specs.Words.{plan_of};
 
 use crate::named::{LocalEnd, LocalFile, run_named};
@@ -14,16 +16,17 @@ use std::sync::Wait;
 use xd_crew::Crew;
 use xd_dist::{LinkedSuite, run_linked};
 use xd_edge::{Children, Clock, Files, OutOfMemory, Sink, Text};
-use xd_group::LinkEnd;
+use xd_group::{GatewayHub, LinkEnd};
 use xd_journal::Journal;
 use xd_link::{Place, Starter};
 use xd_reader::Reader;
+use xd_trace::Moments;
 use xd_words::{Plan, plan_of};
 use xd_worker_runner::Runner;
 
 /// What a call came to.
 #[derive(Drop)]
-pub struct RunEnd<St: Starter, C: Crew<Reader<St::Src>>, K: Children> {
+pub struct RunEnd<St: Starter, C: Crew<Reader<St::Src>>, K: Children, O> {
     /// The exit status.
     pub status: u8,
     /// The journal of the run, where one was begun.
@@ -36,6 +39,10 @@ pub struct RunEnd<St: Starter, C: Crew<Reader<St::Src>>, K: Children> {
     pub crew: C,
     /// The programs that were handed in.
     pub children: K,
+    /// How the hub of a run on workers and the output stood after the lines of each piece of news. Clauses alone read it.
+    pub turns: Option<Moments<GatewayHub<St, C>, O>>,
+    /// How the programs of a run without workers and the output stood after the line of each test. Clauses alone read it.
+    pub tests: Option<Moments<K, O>>,
 }
 
 /// Does what the words ask for.
@@ -76,13 +83,16 @@ pub fn xdrun<
     clock: &mut T,
     out: &mut O,
     err: &mut E,
-) -> Result<RunEnd<St, C, K>, OutOfMemory>
+) -> Result<RunEnd<St, C, K, O>, OutOfMemory>
     ensures did { IfOk result (λ e. Did (plan_of words.now)
         (record {
           status = e.status;
           journal = e.journal;
           links = ended_links St.Src.supply St.Src.is_ended St.Src.faults St.Snk.sunk
               St.Snk.faults e.links.items;
+          turns = turns_seen (λ h. noted h.group.diary.calls) (λ h. noted h.group.diary.given)
+              O.sunk e.turns;
+          tests = tests_seen K.runs O.sunk e.tests;
         })
         (record {
           streams = record {
@@ -140,6 +150,8 @@ pub fn xdrun<
                 starter: end.starter,
                 crew: end.crew,
                 children,
+                turns: Some(end.moments),
+                tests: None,
             });
         }
         Plan::Wire { file } => {
@@ -172,10 +184,12 @@ pub fn xdrun<
         starter,
         crew,
         children: end.children,
+        turns: None,
+        tests: end.moments,
     })
 }
 
-fn without_run<K: Children>(status: u8, children: K) -> LocalEnd<K>
+fn without_run<K: Children, O>(status: u8, children: K) -> LocalEnd<K, O>
     ensures status { result.status ≡ status }
     ensures journal { result.journal ≡ None }
     ensures children { result.children ≡ children }
@@ -184,5 +198,6 @@ fn without_run<K: Children>(status: u8, children: K) -> LocalEnd<K>
         status,
         journal: None,
         children,
+        moments: None,
     }
 }

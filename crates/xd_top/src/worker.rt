@@ -24,6 +24,7 @@ pub fn serve_at<
     K: Children,
     D: Crew<Runner<K>>,
     T: Clock,
+    O,
 >(
     rt: &R,
     alloc: Global,
@@ -34,7 +35,7 @@ pub fn serve_at<
     children: K,
     runner: &mut D,
     clock: &mut T,
-) -> Result<RunEnd<St, C, K>, OutOfMemory>
+) -> Result<RunEnd<St, C, K, O>, OutOfMemory>
     ensures journal { IfOk result (λ e. e.journal ≡ None) }
     ensures did { IfOk result (λ e. DidServe place.now
         (ended_links St.Src.supply St.Src.is_ended St.Src.faults St.Snk.sunk St.Snk.faults
@@ -78,15 +79,17 @@ pub fn serve_at<
         starter,
         crew,
         children: end.children,
+        turns: None,
+        tests: None,
     })
 }
 
-fn not_started<St: Starter, C: Crew<Reader<St::Src>>, K: Children>(
+fn not_started<St: Starter, C: Crew<Reader<St::Src>>, K: Children, O>(
     links: Vec<LinkEnd<St::Src, St::Snk>>,
     starter: St,
     crew: C,
     children: K,
-) -> RunEnd<St, C, K>
+) -> RunEnd<St, C, K, O>
     ensures status { result.status ≡ 3 }
     ensures journal { result.journal ≡ None }
     ensures links { result.links ≡ links }
@@ -101,5 +104,7 @@ fn not_started<St: Starter, C: Crew<Reader<St::Src>>, K: Children>(
         starter,
         crew,
         children,
+        turns: None,
+        tests: None,
     }
 }
