@@ -1,6 +1,6 @@
 -- Worked rows: payloads as the real execnet wrote them, and files that are none.
-use Rattle.std.proofs.Common.{◌≡◌, ◌≢◌, ℕ, ◌+◌, List, [], ◌∷◌, ◌++◌, true, None, length, length-append, refl, ap, arith}
-use Rattle.std.specs.Prelude.{negsuc, codes}
+use Rattle.std.proofs.Common.{◌≡◌, [], ◌∷◌, true, None, length, length-append, refl, ap, arith}
+use Rattle.std.specs.Prelude.{negsuc}
 use Rattle.xd_edge.specs.declared.mode.ModeKind.TheVariants.{Load}
 use Rattle.xd_value.specs.Canonical.{canonical, dumped}
 use Rattle.xd_value.proofs.Dumped.{dumped_payload}
