@@ -2,7 +2,6 @@ pub mod Counting
 pub mod EndFacts
 pub mod Ending
 pub mod FateFacts
-pub mod Frames
 pub mod Keeping
 pub mod Killing
 pub mod Known

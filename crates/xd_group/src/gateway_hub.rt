@@ -191,7 +191,12 @@ impl<St: Starter, C: Crew<Reader<St::Src>>> Hub for GatewayHub<St, C> {
             ++ Start worker slot ∷ []) }
         ensures given { OnOk result
             (noted self.new.group.diary.given ≡ noted self.old.group.diary.given) }
+        ensures first { (self.new.places ≡ self.old.places)
+            × (self.new.children.first ≡ self.old.children.first)
+            × (self.new.group.first ≡ self.old.group.first) }
         ensures whole { OnOk result (self.new.group.is_whole ≡ self.old.group.is_whole) }
+        ensures made { (self.new.group.suite ≡ self.old.group.suite)
+            × (self.new.group.mode ≡ self.old.group.mode) }
     {
         let number = self.children.children.len();
         match self.children.start(alloc, &self.places[slot as usize])? {
@@ -221,7 +226,12 @@ impl<St: Starter, C: Crew<Reader<St::Src>>> Hub for GatewayHub<St, C> {
             ++ order.now ∷ []) }
         ensures given { OnOk result
             (noted self.new.group.diary.given ≡ noted self.old.group.diary.given) }
+        ensures first { (self.new.places ≡ self.old.places)
+            × (self.new.children.first ≡ self.old.children.first)
+            × (self.new.group.first ≡ self.old.group.first) }
         ensures whole { OnOk result (self.new.group.is_whole ≡ self.old.group.is_whole) }
+        ensures made { (self.new.group.suite ≡ self.old.group.suite)
+            × (self.new.group.mode ≡ self.old.group.mode) }
     {
         let cut = self.group.say(alloc, worker, order)?;
         self.children.cut(cut);
@@ -236,7 +246,12 @@ impl<St: Starter, C: Crew<Reader<St::Src>>> Hub for GatewayHub<St, C> {
         ensures called { noted self.new.group.diary.calls ≡ noted self.old.group.diary.calls
             ++ Kill worker ∷ [] }
         ensures given { noted self.new.group.diary.given ≡ noted self.old.group.diary.given }
+        ensures first { (self.new.places ≡ self.old.places)
+            × (self.new.children.first ≡ self.old.children.first)
+            × (self.new.group.first ≡ self.old.group.first) }
         ensures whole { self.new.group.is_whole ≡ self.old.group.is_whole }
+        ensures made { (self.new.group.suite ≡ self.old.group.suite)
+            × (self.new.group.mode ≡ self.old.group.mode) }
     {
         let cut = self.group.kill(worker);
         self.children.cut(cut);
@@ -256,7 +271,12 @@ impl<St: Starter, C: Crew<Reader<St::Src>>> Hub for GatewayHub<St, C> {
             noted self.new.group.diary.given ≡ noted self.old.group.diary.given ++ n ∷ []) }
         ensures calls { OnOk result
             (noted self.new.group.diary.calls ≡ noted self.old.group.diary.calls) }
+        ensures first { (self.new.places ≡ self.old.places)
+            × (self.new.children.first ≡ self.old.children.first)
+            × (self.new.group.first ≡ self.old.group.first) }
         ensures whole { OnOk result (self.new.group.is_whole ≡ self.old.group.is_whole) }
+        ensures made { (self.new.group.suite ≡ self.old.group.suite)
+            × (self.new.group.mode ≡ self.old.group.mode) }
     {
         if let Some(news) = self.group.next_unlinked() {
             return Ok(news);

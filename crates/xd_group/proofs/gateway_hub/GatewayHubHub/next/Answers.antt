@@ -1,15 +1,14 @@
 use Rattle.std.proofs.Common.{◌∙◌}
-use Rattle.xd_group.proofs.Frames.{five_same}
 use Rattle.xd_group.proofs.gateway_hub.GatewayHubHub.next.Goals as goal
 
-pub returns-in_err-news-clause-made : goal.returns-in_err-news-clause-made
-returns-in_err-news-clause-made g c =
+pub returns-in_err-news-clause-first : goal.returns-in_err-news-clause-first
+returns-in_err-news-clause-first g c =
     let was = c.loop.invariant in
-    let now = c.in_err-news.ensures in
-    five_same (now.made.0 ∙ was.suite) (now.made.1 ∙ was.mode) (now.first.0 ∙ was.places) (now.first.1 ∙ was.first) (now.first.2 ∙ was.crew)
+    let now = c.in_err-news.ensures.first in
+    (now.0 ∙ was.places, now.1 ∙ was.first, now.2 ∙ was.crew)
 
-pub returns-in-Some-3-clause-made : goal.returns-in-Some-3-clause-made
-returns-in-Some-3-clause-made g c =
+pub returns-in-Some-3-clause-first : goal.returns-in-Some-3-clause-first
+returns-in-Some-3-clause-first g c =
     let was = c.loop.invariant in
-    let now = c.in_ok-news.ensures in
-    five_same (now.made.0 ∙ was.suite) (now.made.1 ∙ was.mode) (now.first.0 ∙ was.places) (now.first.1 ∙ was.first) (now.first.2 ∙ was.crew)
+    let now = c.in_ok-news.ensures.first in
+    (now.0 ∙ was.places, now.1 ∙ was.first, now.2 ∙ was.crew)
