@@ -3,7 +3,7 @@ use Rattle.std.specs.Prelude.{Result, Ok, Err, IfOk, OnOk, option_map}
 use Rattle.std.proofs.lemmas.List.Elements.{All-map}
 use Rattle.std.proofs.lemmas.Result.{IfOk-at_ok}
 use Rattle.std.proofs.lemmas.Simd.{map-map}
-use Rattle.std.proofs.Common.{◌≡◌, ℕ, List, [], ◌++◌, map, false, not, Option, Some, None, refl, sym, ◌∙◌, ap, subst, All}
+use Rattle.std.proofs.Common.{◌≡◌, ℕ, List, [], ◌++◌, length, map, false, not, Option, Some, None, refl, sym, ◌∙◌, ap, subst, All}
 use Rattle.xd_edge.specs.Faults.{Counted, RoseBy}
 use Rattle.xd_edge.specs.Sink.{Sunk}
 use Rattle.xd_edge.specs.declared.mode.ModeKind.{ModeKind}
@@ -20,7 +20,7 @@ use Rattle.xd_drive.specs.declared.running.DrivenRun.{DrivenRun}
 use Rattle.xd_drive.specs.Driven.{Broken, IsJournalOf, Whole}
 use Rattle.xd_drive.specs.Listed.{is_listed, starts_of}
 use Rattle.xd_drive.specs.Marks.{no_marks}
-use Rattle.xd_drive.specs.Seen.{HubScene}
+use Rattle.xd_drive.specs.Seen.{TurnScene}
 use Rattle.xd_starts.specs.Children.{AskedOfLink, ToldByStarter, link_asked, told_of}
 use Rattle.xd_group.specs.Fates.{has_link, is_linked, is_refused, is_unlinked, workers_with}
 use Rattle.xd_group.specs.Few.{RoseFor, count_with}
@@ -36,13 +36,13 @@ use Rattle.xd_dist.specs.Linked.{DrivesTo, EndedLink, LinkedRun, RunsLinked, Lin
 pub unmarked : (calls : List Entry) (given : List News) → calls ≡ [] → given ≡ [] → (w : ℕ) → marks_told calls given w ≡ no_marks
 unmarked calls given c g w = rw (c, g) refl
 
-pub whole_from : (j : Journal) (first calls : List Entry) (was given : List News) (s0 s1 : Option Sunk) (ms : List HubScene) → first ≡ [] → was ≡ [] → (taken : List News) × Whole taken j (scene_told first was s0) (scene_told calls given s1) ms
+pub whole_from : (j : Journal) (first calls : List Entry) (was given : List News) (s0 s1 : Option Sunk) (ms : List TurnScene) → first ≡ [] → was ≡ [] → (taken : List News) × Whole taken j (scene_told first was s0) (scene_told calls given s1) ms
     → (taken : List News) × Whole taken j (scene_told [] [] s0) (scene_told calls given s1) ms
 whole_from j first calls was given s0 s1 ms c g w =
     subst (λ (f : List Entry). (taken : List News) × Whole taken j (scene_told f [] s0) (scene_told calls given s1) ms) c
     (subst (λ (n : List News). (taken : List News) × Whole taken j (scene_told first n s0) (scene_told calls given s1) ms) g w)
 
-pub broken_from : (j : Journal) (first calls : List Entry) (was given : List News) (s0 s1 : Option Sunk) (ms : List HubScene) → first ≡ [] → was ≡ [] → (count : ℕ) × (taken : List News) × Broken count taken j (scene_told first was s0) (scene_told calls given s1) ms
+pub broken_from : (j : Journal) (first calls : List Entry) (was given : List News) (s0 s1 : Option Sunk) (ms : List TurnScene) → first ≡ [] → was ≡ [] → (count : ℕ) × (taken : List News) × Broken count taken j (scene_told first was s0) (scene_told calls given s1) ms
     → (count : ℕ) × (taken : List News) × Broken count taken j (scene_told [] [] s0) (scene_told calls given s1) ms
 broken_from j first calls was given s0 s1 ms c g w =
     subst (λ (f : List Entry). (count : ℕ) × (taken : List News) × Broken count taken j (scene_told f [] s0) (scene_told calls given s1) ms) c
@@ -56,8 +56,8 @@ begun_from (Some b) now more asked e = e
 
 -- a run by what the hub took and gave and what its links left
 pub runs_linked : {A : Type 0} (seen : A → EndedLink) (ends : List A) (setup : Setup) (now : List ℕ) (mode : ModeKind) (j : Journal) (calls : List Entry) (given : List News) (workers : List ℕ) (fates : List Fate) (places : List Place)
-    (first : Option Begun) (last : Option ToldByStarter) (starter_old starter_new crew_old crew_new out_old out_new : ℕ) (s0 s1 : Option Sunk) (ms : List HubScene)
-    → now ≡ setup.suite → mode ≡ setup.settings.mode → workers ≡ workers_started calls → places ≡ setup.places → DrivesTo j calls given s0 s1 ms
+    (first : Option Begun) (last : Option ToldByStarter) (starter_old starter_new crew_old crew_new out_old out_new : ℕ) (s0 s1 : Option Sunk) (ms : List TurnScene)
+    → now ≡ setup.suite → mode ≡ setup.settings.mode → workers ≡ workers_started calls → length fates ≡ length workers → places ≡ setup.places → DrivesTo j calls given s0 s1 ms
     → map (λ a. (seen a).worker) ends ≡ workers_with has_link workers fates
     → All (λ a. ∥ RanSo now mode given calls (workers_with is_refused workers fates) (seen a).worker (seen a).link ∥₁) ends
     → last ≡ option_map (λ b. record { starts = b.starts ++ all_started places (starts_of calls) fates; links = map link_asked b.links ++ map (λ a. end_told (seen a).killed) ends }) first
@@ -65,11 +65,12 @@ pub runs_linked : {A : Type 0} (seen : A → EndedLink) (ends : List A) (setup :
     → ((w : ℕ) → is_listed w (workers_with is_linked workers fates) ≡ false → ∥ SaidUnlinked given w ∥₁)
     → RoseFor (count_with is_refused fates) crew_old crew_new → RoseBy (count_with is_unlinked fates) starter_old starter_new
     → RunsLinked setup j (map seen ends) (record { begun = option_map told_of first; starter_faults = starter_old; crew_faults = crew_old; sunk = s0; out_faults = out_old }) (record { begun = last; starter_faults = starter_new; crew_faults = crew_new; sunk = s1; out_faults = out_new }) ms
-runs_linked {A} seen ends setup now mode j calls given workers fates places first last starter_old starter_new crew_old crew_new out_old out_new s0 s1 ms same in_mode listed at drives all each begun killed unlinked refused failed = record {
+runs_linked {A} seen ends setup now mode j calls given workers fates places first last starter_old starter_new crew_old crew_new out_old out_new s0 s1 ms same in_mode listed matched at drives all each begun killed unlinked refused failed = record {
   calls = calls;
   given = given;
   fates = fates;
   drives = drives;
+  matched = matched ∙ ap (λ (ws : List ℕ). length ws) listed;
   all = map-map (λ l. l.worker) seen ends ∙ (all ∙ ap (λ (ws : List ℕ). workers_with has_link ws fates) listed);
   each = All-map (λ l. ∥ RanSo setup.suite setup.settings.mode given calls (workers_with is_refused (workers_started calls) fates) l.worker l.link ∥₁) seen ends
       (subst (λ (ws : List ℕ). All (λ a. ∥ RanSo setup.suite setup.settings.mode given calls (workers_with is_refused ws fates) (seen a).worker (seen a).link ∥₁) ends) listed
@@ -86,13 +87,13 @@ runs_linked {A} seen ends setup now mode j calls given workers fates places firs
 }
 
 -- what is seen of a hub that stayed as it was, where the run came to its end
-pub seen_as : {Ends E H Hub Out : Type 0} (ended : Result (DrivenRun Hub Out × Ends) E) (seen : Ends → List EndedLink) (at : DrivenRun Hub Out → List HubScene) (setup : Setup) (old : LinksSeen) (f : H → LinksSeen) (before after : H) → OnOk ended (after ≡ before)
+pub seen_as : {Ends E H Hub Out : Type 0} (ended : Result (DrivenRun Hub Out × Ends) E) (seen : Ends → List EndedLink) (at : DrivenRun Hub Out → List TurnScene) (setup : Setup) (old : LinksSeen) (f : H → LinksSeen) (before after : H) → OnOk ended (after ≡ before)
     → IfOk ended (λ r. RunsLinked setup r.0.journal (seen r.1) old (f before) (at r.0)) → IfOk ended (λ r. RunsLinked setup r.0.journal (seen r.1) old (f after) (at r.0))
 seen_as {H = H} (Ok r) seen at setup old f before after same runs = subst (λ (h : H). RunsLinked setup r.0.journal (seen r.1) old (f h) (at r.0)) (sym same) runs
 seen_as (Err e) seen at setup old f before after same runs = tt
 
 -- a run by what was driven and what its links left
-pub linked_run : {Ends E Hub Out : Type 0} (ended : Result (DrivenRun Hub Out × Ends) E) (seen : Ends → List EndedLink) (at : DrivenRun Hub Out → List HubScene) (now setup : Setup) (old new : LinksSeen) (driven : DrivenRun Hub Out) (ends : Ends)
+pub linked_run : {Ends E Hub Out : Type 0} (ended : Result (DrivenRun Hub Out × Ends) E) (seen : Ends → List EndedLink) (at : DrivenRun Hub Out → List TurnScene) (now setup : Setup) (old new : LinksSeen) (driven : DrivenRun Hub Out) (ends : Ends)
     → now ≡ setup → ended ≡ Ok (driven, ends) → IfOk ended (λ r. r.0.status ≡ status_of r.0.journal)
     → IfOk ended (λ r. IsJournalOf now.settings r.0.journal) → IfOk ended (λ r. RunsLinked now r.0.journal (seen r.1) old new (at r.0))
     → IfOk ended (λ r. Counted (not (is_out_fault (stop_of r.0.journal))) old.out_faults new.out_faults)

@@ -1,5 +1,5 @@
 -- A run with workers.
-use Rattle.std.specs.Prelude.{◌≡◌, ℕ, ◌++◌, Bool, true, false, not, List, [], All, map, Option, Some, option_map}
+use Rattle.std.specs.Prelude.{◌≡◌, ℕ, ◌++◌, Bool, true, false, not, List, [], All, length, map, Option, Some, option_map}
 use Rattle.xd_edge.specs.Faults.{Counted, RoseBy}
 use Rattle.xd_edge.specs.Sink.{Sunk}
 use Rattle.xd_link.specs.Source.{Supply}
@@ -14,9 +14,7 @@ use Rattle.xd_run.specs.Ending.{stop_of}
 use Rattle.xd_report.specs.Status.{status_of}
 use Rattle.xd_session.specs.Ends.{is_out_fault}
 use Rattle.xd_drive.specs.Driven.{Broken, IsJournalOf, Whole}
-use Rattle.xd_drive.specs.Seen.{HubScene}
-use Rattle.xd_trace.specs.Noted.{moments}
-use Rattle.xd_trace.specs.declared.moments.Moments.{Moments}
+use Rattle.xd_drive.specs.Seen.{HubScene, TurnScene}
 use Rattle.xd_drive.specs.Listed.{is_listed, starts_of}
 use Rattle.xd_starts.specs.Children.{ToldByStarter, told_of}
 use Rattle.xd_group.specs.Fates.{has_link, is_linked, is_refused, is_unlinked, workers_with}
@@ -46,14 +44,9 @@ setup_of s = record { suite = s.path; settings = s.settings; places = s.places.i
 abbrev pub scene_told : List Entry → List News → Option Sunk → HubScene
 scene_told calls given sunk = record { marks = marks_told calls given; seen = Some (record { calls = calls; given = given }); sunk = sunk }
 
-module _ {H O : Type 0} (calls : H → List Entry) (given : H → List News) (sunk : O → Option Sunk) where
-  -- what was seen of a hub that notes its calls and its news, and of an output, at these moments
-  abbrev pub scenes_told : Moments H O → List HubScene
-  scenes_told m = map (λ p. scene_told (calls p.0) (given p.0) (sunk p.1)) (moments m)
-
 -- The journal is what the hub's news made of the run, what it asks for was told to the hub after its lines, as was seen at
 -- these moments, and its report was printed; or the output failed.
-pub record DrivesTo (j : Journal) (calls : List Entry) (given : List News) (old new : Option Sunk) (moments : List HubScene) : Type 0 where
+pub record DrivesTo (j : Journal) (calls : List Entry) (given : List News) (old new : Option Sunk) (moments : List TurnScene) : Type 0 where
   pub whole : is_out_fault (stop_of j) ≡ false → (taken : List News) × Whole taken j (scene_told [] [] old) (scene_told calls given new) moments
   pub broken : is_out_fault (stop_of j) ≡ true → (count : ℕ) × (taken : List News) × Broken count taken j (scene_told [] [] old) (scene_told calls given new) moments
 
@@ -92,11 +85,12 @@ AddsBegun places calls fates links old new = new ≡ option_map (λ b. record { 
 -- A run with workers: what the hub took and gave made the journal and its report. Each start of a worker has a fate:
 -- no link, a link whose reader was refused, or a link that was read. The links are those of the starts, in order; each that was
 -- read gave its worker's news and took its worker's orders, from its start to its end, and each other one was not used.
-pub record RunsLinked (setup : Setup) (j : Journal) (links : List EndedLink) (old new : LinksSeen) (moments : List HubScene) : Type 0 where
+pub record RunsLinked (setup : Setup) (j : Journal) (links : List EndedLink) (old new : LinksSeen) (moments : List TurnScene) : Type 0 where
   pub calls : List Entry
   pub given : List News
   pub fates : List Fate
   pub drives : DrivesTo j calls given old.sunk new.sunk moments
+  pub matched : length fates ≡ length (workers_started calls)
   pub all : map (λ l. l.worker) links ≡ workers_with has_link (workers_started calls) fates
   pub each : All (λ l. ∥ RanSo setup.suite setup.settings.mode given calls (workers_with is_refused (workers_started calls) fates) l.worker l.link ∥₁) links
   pub begun : AddsBegun setup.places calls fates links old.begun new.begun
@@ -108,7 +102,7 @@ pub record RunsLinked (setup : Setup) (j : Journal) (links : List EndedLink) (ol
 -- A run of a suite on workers: its journal, its exit status, its links, the outside, and how its hub and the output stood
 -- after the lines of each piece of news.
 -- Example: gw1 was told to run test 1: its sink took the frame of that order, and its result stands among gw1's news.
-pub record LinkedRun (setup : Setup) (j : Journal) (code : ℕ) (links : List EndedLink) (old new : LinksSeen) (moments : List HubScene) : Type 0 where
+pub record LinkedRun (setup : Setup) (j : Journal) (code : ℕ) (links : List EndedLink) (old new : LinksSeen) (moments : List TurnScene) : Type 0 where
   pub journal : IsJournalOf setup.settings j
   pub status : code ≡ status_of j
   pub runs : RunsLinked setup j links old new moments

@@ -11,14 +11,16 @@ ghost use Rattle.xd_session.specs.Stands.{CanBegin, StandsForNews};
 ghost use Rattle.xd_run.specs.State.{no_one};
 ghost use Rattle.std.specs.List.{list_all};
 ghost use Rattle.xd_starts.specs.Children.{is_killed_and_reaped};
-ghost use Rattle.xd_dist.specs.Linked.{LinkedRun, RunsLinked, ended_links, links_seen, scenes_told, setup_of};
+ghost use Rattle.xd_drive.specs.Moments.{turns_of};
+ghost use Rattle.xd_group.specs.Diaries.{diary_tells};
+ghost use Rattle.xd_dist.specs.Linked.{LinkedRun, RunsLinked, ended_links, links_seen, setup_of};
 
 use std::alloc::Global;
 use std::sync::Wait;
 use xd_crew::Crew;
 use xd_drive::{DrivenRun, drive};
 use xd_edge::{ModeKind, OutOfMemory, Sink, Text};
-use xd_group::{GatewayHub, Group, LinkEnd};
+use xd_group::{Diary, GatewayHub, Group, LinkEnd};
 use xd_journal::{Journal, Settings};
 use xd_ledger::Mode;
 use xd_link::{Place, Starter};
@@ -51,8 +53,8 @@ pub struct Linked<St: Starter, C: Crew<Reader<St::Src>>, O> {
     pub links: Vec<LinkEnd<St::Src, St::Snk>>,
     pub starter: St,
     pub crew: C,
-    /// How the hub and the output stood after the lines of each piece of news. Clauses alone read it.
-    pub moments: Moments<GatewayHub<St, C>, O>,
+    /// How what the hub notes and the output stood after the lines of each piece of news. Clauses alone read it.
+    pub moments: Moments<Diary, O>,
 }
 
 // Drives the session over the hub, and ends its links.
@@ -62,13 +64,7 @@ fn run_over<R: Wait, M: Mode, St: Starter, C: Crew<Reader<St::Src>>, O: Sink>(
     session: Session<M>,
     hub: &mut GatewayHub<St, C>,
     out: &mut O,
-) -> Result<
-    (
-        DrivenRun<GatewayHub<St, C>, O>,
-        Vec<LinkEnd<St::Src, St::Snk>>,
-    ),
-    OutOfMemory,
->
+) -> Result<(DrivenRun<Diary, O>, Vec<LinkEnd<St::Src, St::Snk>>), OutOfMemory>
     requires begins { StandsForNews [] session }
     requires slots { session.settings.workers ≤ vec_len hub.old.places }
     requires no_calls { noted hub.old.group.diary.calls ≡ [] }
@@ -89,8 +85,7 @@ fn run_over<R: Wait, M: Mode, St: Starter, C: Crew<Reader<St::Src>>, O: Sink>(
         (C.faults hub.old.group.first.value) (O.sunk out.old) (O.faults out.old))
         (links_seen (St.begun hub.new.children.starter) (St.faults hub.new.children.starter)
         (C.faults hub.new.group.links.crew) (O.sunk out.new) (O.faults out.new))
-        (scenes_told (λ h. noted h.group.diary.calls) (λ h. noted h.group.diary.given)
-        O.sunk r.0.moments)) }
+        (turns_of diary_tells O.sunk r.0.moments)) }
     ensures counted { IfOk result (λ r.
         Counted (not (is_out_fault (stop_of r.0.journal))) (O.faults out.old) (O.faults out.new)) }
     ensures later { O.faults out.old ≤ O.faults out.new }
@@ -104,13 +99,7 @@ fn run_over<R: Wait, M: Mode, St: Starter, C: Crew<Reader<St::Src>>, O: Sink>(
 fn end_workers<R: Wait, St: Starter, C: Crew<Reader<St::Src>>, O>(
     rt: &R,
     hub: &mut GatewayHub<St, C>,
-    ended: &Result<
-        (
-            DrivenRun<GatewayHub<St, C>, O>,
-            Vec<LinkEnd<St::Src, St::Snk>>,
-        ),
-        OutOfMemory,
-    >,
+    ended: &Result<(DrivenRun<Diary, O>, Vec<LinkEnd<St::Src, St::Snk>>), OutOfMemory>,
 )
     ensures same { OnOk ended.now (hub.new ≡ hub.old) }
     ensures over { OnErr ended.now
@@ -123,13 +112,7 @@ fn end_workers<R: Wait, St: Starter, C: Crew<Reader<St::Src>>, O>(
 
 // What the run came to, with the starter and the crew.
 fn end_of<St: Starter, C: Crew<Reader<St::Src>>, O>(
-    ended: Result<
-        (
-            DrivenRun<GatewayHub<St, C>, O>,
-            Vec<LinkEnd<St::Src, St::Snk>>,
-        ),
-        OutOfMemory,
-    >,
+    ended: Result<(DrivenRun<Diary, O>, Vec<LinkEnd<St::Src, St::Snk>>), OutOfMemory>,
     starter: St,
     crew: C,
 ) -> Result<Linked<St, C, O>, OutOfMemory>
@@ -174,8 +157,7 @@ pub fn run_linked<R: Wait, St: Starter, C: Crew<Reader<St::Src>>, O: Sink>(
         (C.faults crew) (O.sunk out.old) (O.faults out.old))
         (links_seen (St.begun e.starter) (St.faults e.starter)
         (C.faults e.crew) (O.sunk out.new) (O.faults out.new))
-        (scenes_told (λ h. noted h.group.diary.calls) (λ h. noted h.group.diary.given)
-        O.sunk e.moments)) }
+        (turns_of diary_tells O.sunk e.moments)) }
     ensures later { O.faults out.old ≤ O.faults out.new }
 {
     let Settings {
@@ -224,8 +206,7 @@ fn run_in<R: Wait, M: Mode, St: Starter, C: Crew<Reader<St::Src>>, O: Sink>(
         (C.faults crew) (O.sunk out.old) (O.faults out.old))
         (links_seen (St.begun e.starter) (St.faults e.starter)
         (C.faults e.crew) (O.sunk out.new) (O.faults out.new))
-        (scenes_told (λ h. noted h.group.diary.calls) (λ h. noted h.group.diary.given)
-        O.sunk e.moments)) }
+        (turns_of diary_tells O.sunk e.moments)) }
     ensures later { O.faults out.old ≤ O.faults out.new }
 {
     let LinkedSuite {

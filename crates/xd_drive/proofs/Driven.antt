@@ -30,7 +30,7 @@ use Rattle.xd_drive.specs.Failing.{FailedAt}
 use Rattle.xd_drive.specs.Going.{EndsRun}
 use Rattle.xd_drive.specs.Moments.{LinesFirst, LinesFirstOf}
 use Rattle.xd_drive.specs.Performing.{all_possible, kills_of_started}
-use Rattle.xd_drive.specs.Seen.{HubScene, HubSeen, Performs, HubTells}
+use Rattle.xd_drive.specs.Seen.{HubScene, HubSeen, Performs, HubTells, TurnScene}
 use Rattle.xd_report.specs.Printing.{ShowsEnd}
 use Rattle.xd_drive.specs.Taken.{AreInTime, run_given, taken_of}
 use Rattle.xd_drive.proofs.Failing.{failed-following, failed-part}
@@ -58,7 +58,7 @@ module _ (failed : Bool) (s : SessionSeen) (given : List News) (j : Journal) (p 
   text-same : text_of j ≡ run_text s.settings s.entries
   text-same = text-is j s.settings (s.entries ++ ending failed (state_of s).books) same entries_are ∙ text-following (ending failed (state_of s).books) (silent-ending failed (state_of s).books) s.settings s.entries
 
-pub whole : (s : SessionSeen) (j : Journal) (old new : HubScene) (ms : List HubScene) → IsProper s.settings [] → j.settings ≡ s.settings → j.entries.items ≡ s.entries ++ ending false (state_of s).books → stop_of j ≡ last_stop false (state_of s).books → EndsRun WholeAt s old new ms
+pub whole : (s : SessionSeen) (j : Journal) (old new : HubScene) (ms : List TurnScene) → IsProper s.settings [] → j.settings ≡ s.settings → j.entries.items ≡ s.entries ++ ending false (state_of s).books → stop_of j ≡ last_stop false (state_of s).books → EndsRun WholeAt s old new ms
     → (given : List News) × Whole given j old new ms
 whole s j old new ms p same is stop e =
     let f = e.1 in (
@@ -71,7 +71,7 @@ whole s j old new ms p same is stop e =
       },
     )
 
-pub kills-left : (count : ℕ) (s : SessionSeen) (j : Journal) (old new : HubScene) (ms : List HubScene) (slots : ℕ) → j.entries.items ≡ s.entries ++ ending true (state_of s).books → EndsRun (BrokenAt count) s old new ms
+pub kills-left : (count : ℕ) (s : SessionSeen) (j : Journal) (old new : HubScene) (ms : List TurnScene) (slots : ℕ) → j.entries.items ≡ s.entries ++ ending true (state_of s).books → EndsRun (BrokenAt count) s old new ms
     → all_possible slots new.marks (kills_of_started (take count j.entries.items) (drop count j.entries.items)) ≡ true
 kills-left count s j old new ms slots is e =
     let f = e.1 in
@@ -79,7 +79,7 @@ kills-left count s j old new ms slots is e =
     ∙ ap (λ (es : List Entry). all_possible slots new.marks (kills_of_started es (drop count (s.entries ++ ending true (state_of s).books)))) (take-append-le count s.entries (ending true (state_of s).books) f.within)
     ∙ ap (λ (es : List Entry). all_possible slots new.marks (kills_of_started (take count s.entries) es)) (drop-append-le count s.entries (ending true (state_of s).books) f.within) ∙ f.kills slots
 
-pub broken : (count : ℕ) (s : SessionSeen) (j : Journal) (old mid new : HubScene) (ms : List HubScene) → IsProper s.settings [] → j.settings ≡ s.settings → j.entries.items ≡ s.entries ++ ending true (state_of s).books → stop_of j ≡ last_stop true (state_of s).books → EndsRun (BrokenAt count) s old mid ms
+pub broken : (count : ℕ) (s : SessionSeen) (j : Journal) (old mid new : HubScene) (ms : List TurnScene) → IsProper s.settings [] → j.settings ≡ s.settings → j.entries.items ≡ s.entries ++ ending true (state_of s).books → stop_of j ≡ last_stop true (state_of s).books → EndsRun (BrokenAt count) s old mid ms
     → Performs (kills_of_started (take count j.entries.items) (drop count j.entries.items)) mid.seen new.seen → new.sunk ≡ mid.sunk → (given : List News) × Broken count given j old new ms
 broken count s j old mid new ms p same is stop e kills sunk =
     let f = e.1 in
@@ -139,26 +139,26 @@ module _ (settings : Settings) (s : SessionSeen) (j : Journal) (proper : IsPrope
   still : IsProper s.settings []
   still = subst (λ (x : Settings). IsProper x []) (sym kept) proper
 
-  pub drive-journal : (old new : HubScene) (ms : List HubScene) → ((x : ℕ) → written ≡ BrokenAt x → ⊥) → j.entries.items ≡ s.entries ++ ending false (state_of s).books → IsLegal j → EndsRun written s old new ms → IsJournalOf settings j
+  pub drive-journal : (old new : HubScene) (ms : List TurnScene) → ((x : ℕ) → written ≡ BrokenAt x → ⊥) → j.entries.items ≡ s.entries ++ ending false (state_of s).books → IsLegal j → EndsRun written s old new ms → IsJournalOf settings j
   drive-journal old new ms none is legal e =
       let f = subst (λ (o : Written). EndsRun o s old new ms) (whole-of written none) e in
       subst (λ (x : Settings). IsJournalOf x j) kept (journal-by false s j (taken_of s.settings (f.0)) still same is f.1.over legal f.1.stands)
 
-  pub drive-journal-broken : (count : ℕ) → written ≡ BrokenAt count → (old new : HubScene) (ms : List HubScene) → j.entries.items ≡ s.entries ++ ending true (state_of s).books → IsLegal j → EndsRun written s old new ms → IsJournalOf settings j
+  pub drive-journal-broken : (count : ℕ) → written ≡ BrokenAt count → (old new : HubScene) (ms : List TurnScene) → j.entries.items ≡ s.entries ++ ending true (state_of s).books → IsLegal j → EndsRun written s old new ms → IsJournalOf settings j
   drive-journal-broken count some old new ms is legal e =
       let f = subst (λ (o : Written). EndsRun o s old new ms) some e in
       subst (λ (x : Settings). IsJournalOf x j) kept (journal-by true s j (taken_of s.settings (f.0)) still same is refl legal f.1.stands)
 
-  pub drive-whole : (old new : HubScene) (ms : List HubScene) → ((x : ℕ) → written ≡ BrokenAt x → ⊥) → j.entries.items ≡ s.entries ++ ending false (state_of s).books → stop_of j ≡ last_stop false (state_of s).books → EndsRun written s old new ms
+  pub drive-whole : (old new : HubScene) (ms : List TurnScene) → ((x : ℕ) → written ≡ BrokenAt x → ⊥) → j.entries.items ≡ s.entries ++ ending false (state_of s).books → stop_of j ≡ last_stop false (state_of s).books → EndsRun written s old new ms
       → (given : List News) × Whole given j old new ms
   drive-whole old new ms none is stop e = whole s j old new ms still same is stop (subst (λ (o : Written). EndsRun o s old new ms) (whole-of written none) e)
 
   module _ (count : ℕ) (some : written ≡ BrokenAt count) (is : j.entries.items ≡ s.entries ++ ending true (state_of s).books) (a b : List Entry) (first : a ≡ j.entries.items) (second : b ≡ j.entries.items) where
-    pub drive-kills : (old mid : HubScene) (ms : List HubScene) (slots : ℕ) → EndsRun written s old mid ms → all_possible slots mid.marks (kills_of_started (take count a) (take (length b - count) (drop count b))) ≡ true
+    pub drive-kills : (old mid : HubScene) (ms : List TurnScene) (slots : ℕ) → EndsRun written s old mid ms → all_possible slots mid.marks (kills_of_started (take count a) (take (length b - count) (drop count b))) ≡ true
     drive-kills old mid ms slots e =
         ap (all_possible slots mid.marks) (slices count a b j.entries.items first second) ∙ kills-left count s j old mid ms slots is (subst (λ (o : Written). EndsRun o s old mid ms) some e)
 
-    pub drive-broken : (old mid new : HubScene) (ms : List HubScene) → stop_of j ≡ last_stop true (state_of s).books → EndsRun written s old mid ms → Performs (kills_of_started (take count a) (take (length b - count) (drop count b))) mid.seen new.seen
+    pub drive-broken : (old mid new : HubScene) (ms : List TurnScene) → stop_of j ≡ last_stop true (state_of s).books → EndsRun written s old mid ms → Performs (kills_of_started (take count a) (take (length b - count) (drop count b))) mid.seen new.seen
         → new.sunk ≡ mid.sunk → (n : ℕ) × (given : List News) × Broken n given j old new ms
     drive-broken old mid new ms stop e kills sunk =
         let ends = broken count s j old mid new ms still same is stop (subst (λ (o : Written). EndsRun o s old mid ms) some e)

@@ -9,19 +9,19 @@ use Rattle.xd_journal.specs.declared.news.News.{News}
 use Rattle.xd_trace.proofs.Each.{each-more, each-none}
 use Rattle.xd_report.specs.Lines.{run_lines}
 use Rattle.xd_drive.specs.Moments.{IsBetween, LinesFirst, LinesFirstOf}
-use Rattle.xd_drive.specs.Seen.{GaveNews, HubScene, HubTells}
+use Rattle.xd_drive.specs.Seen.{GaveNews, HubScene, HubTells, TurnScene}
 use Rattle.xd_drive.specs.Taken.{run_given}
 use Rattle.xd_drive.proofs.Performs.{tells-gave}
 
-module _ (x : Settings) (old : HubScene) (ms : List HubScene) where
-  abbrev Between : List News → News → HubScene → Type 0
+module _ (x : Settings) (old : HubScene) (ms : List TurnScene) where
+  abbrev Between : List News → News → TurnScene → Type 0
   Between before n m = IsBetween x before n old m
 
   pub lines-none : LinesFirst x [] old ms
   lines-none = each-none Between ms
 
   -- the moment after the lines of one more piece of news
-  pub first-more : (given : List News) (n : News) (mid new m : HubScene) → LinesFirst x given old ms → HubTells (run_given x given).entries given old.seen mid.seen → GaveNews n mid.seen m.seen
+  pub first-more : (given : List News) (n : News) (mid new : HubScene) (m : TurnScene) → LinesFirst x given old ms → HubTells (run_given x given).entries given old.seen mid.seen → GaveNews n mid.seen m.seen
       → m.sunk ≡ new.sunk → ShowsSome (run_lines x (run_given x (given ++ n ∷ [])).entries) old.sunk new.sunk → LinesFirst x (given ++ n ∷ []) old (ms ++ m ∷ [])
   first-more given n mid new m first tells gave printed shows = each-more Between given n ms m first (record {
     tells = tells-gave (run_given x given).entries given n old.seen mid.seen m.seen tells gave;

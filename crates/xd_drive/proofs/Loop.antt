@@ -33,7 +33,7 @@ use Rattle.xd_drive.specs.Going.{EndsRun, EndsTail, Finished, Going, HasNoMarks,
 use Rattle.xd_drive.specs.Marks.{Marks}
 use Rattle.xd_drive.specs.Moments.{LinesFirst, LinesFirstOf}
 use Rattle.xd_drive.specs.Performing.{marks_after, marks_after_entry, all_possible, is_start_of, kills_of_started, was_started}
-use Rattle.xd_drive.specs.Seen.{HubScene, HubSeen, Performs, HubTells}
+use Rattle.xd_drive.specs.Seen.{HubScene, HubSeen, Performs, HubTells, TurnScene}
 use Rattle.xd_edge.specs.Printing.{BreaksOff, ShowsSome}
 use Rattle.xd_report.specs.Printing.{ShowsEnd}
 use Rattle.xd_drive.specs.Taken.{AreInTime, run_given, taken_of, taken_with}
@@ -97,7 +97,7 @@ taken-more settings given n = fold-append (taken_with settings) [] given (n ∷ 
 stands-more : (given : List News) (n : News) (s0 s1 : SessionSeen) → s1.settings ≡ s0.settings → StandsForNews (taken_with s0.settings (taken_of s0.settings given) n) s1 → StandsForNews (taken_of s1.settings (given ++ n ∷ [])) s1
 stands-more given n s0 s1 same st = subst (λ (t : List News). StandsForNews t s1) (sym (taken-more s0.settings given n) ∙ ap (λ (x : Settings). taken_of x (given ++ n ∷ [])) (sym same)) st
 
-module _ (given : List News) (n : News) (s0 s1 : SessionSeen) (old mid new : HubScene) (ms after : List HubScene) (g : Going given s0 old mid ms) where
+module _ (given : List News) (n : News) (s0 s1 : SessionSeen) (old mid new : HubScene) (ms after : List TurnScene) (g : Going given s0 old mid ms) where
   lines-more : (more : List Entry) → s1.settings ≡ s0.settings → s1.entries ≡ s0.entries ++ more → run_lines s1.settings s1.entries ≡ run_lines s0.settings s0.entries ++ lines_from (after_entries (no_one s0.settings) s0.entries) more
   lines-more more same is = ap (λ (x : Settings). run_lines x s1.entries) same ∙ ap (run_lines s0.settings) is ∙ lines-join (no_one s0.settings) s0.entries more
 
@@ -116,7 +116,7 @@ module _ (given : List News) (n : News) (s0 s1 : SessionSeen) (old mid new : Hub
   lines-next : (t : TakesNews n Whole s0 s1 mid new ms after) → StandsForNews (taken_of s1.settings (given ++ n ∷ [])) s1 → LinesFirst s1.settings (given ++ n ∷ []) old after
   lines-next t st =
       let told = t.told.1 in
-      subst (λ (k : List HubScene). LinesFirst s1.settings (given ++ n ∷ []) old k) (sym told.notes)
+      subst (λ (k : List TurnScene). LinesFirst s1.settings (given ++ n ∷ []) old k) (sym told.notes)
       (first-more s1.settings old ms given n mid new told.between (subst (λ (x : Settings). LinesFirst x given old ms) (sym t.settings) g.lines_first)
       (subst (λ (x : Settings). HubTells (run_given x given).entries given old.seen mid.seen) (sym t.settings) (subst (λ (es : List Entry). HubTells es given old.seen mid.seen) g.stands.entries g.tells))
       told.gave told.printed (subst (λ (es : List Entry). ShowsSome (run_lines s1.settings es) old.sunk new.sunk) st.entries (shows-next t)))
@@ -170,7 +170,7 @@ module _ (given : List News) (n : News) (s0 s1 : SessionSeen) (old mid new : Hub
     lines-before-it : LinesFirstOf (take count s1.entries) s1.settings (given ++ n ∷ []) old after
     lines-before-it =
         subst (λ (x : Settings). LinesFirstOf (take count s1.entries) x (given ++ n ∷ []) old after) (sym t.settings)
-        (subst (λ (k : List HubScene). LinesFirstOf (take count s1.entries) s0.settings (given ++ n ∷ []) old k) (sym u.notes)
+        (subst (λ (k : List TurnScene). LinesFirstOf (take count s1.entries) s0.settings (given ++ n ∷ []) old k) (sym u.notes)
         (record { told = given; rest = n ∷ []; split = refl; make = before-is ∙ g.stands.entries; lines_first = g.lines_first }))
 
     pub going-stop : Stopped (given ++ n ∷ []) count s1 old new after
@@ -191,7 +191,7 @@ module _ (given : List News) (n : News) (s0 s1 : SessionSeen) (old mid new : Hub
 
 -- the tail
 
-module _ (given : List News) (s : SessionSeen) (old mid new : HubScene) (ms : List HubScene) (g : Going given s old mid ms) (seen_same : new.seen ≡ mid.seen) (marks_same : (w : ℕ) → new.marks w ≡ mid.marks w)
+module _ (given : List News) (s : SessionSeen) (old mid new : HubScene) (ms : List TurnScene) (g : Going given s old mid ms) (seen_same : new.seen ≡ mid.seen) (marks_same : (w : ℕ) → new.marks w ≡ mid.marks w)
     (j : Journal) (settings_are : j.settings ≡ s.settings) (entries_are : j.entries.items ≡ s.entries) where
   tail-same : tail_text j ≡ run_tail s.settings s.entries
   tail-same = tail-is j s.settings s.entries settings_are entries_are
@@ -239,7 +239,7 @@ module _ (given : List News) (s : SessionSeen) (old mid new : HubScene) (ms : Li
 
 -- the beginning
 
-pub going-first : (s : SessionSeen) (slots : ℕ) (old new : HubScene) (ms : List HubScene) → s.settings.workers ≤ slots → StandsForNews [] s → HasNoMarks old.marks → Performs s.entries old.seen new.seen
+pub going-first : (s : SessionSeen) (slots : ℕ) (old new : HubScene) (ms : List TurnScene) → s.settings.workers ≤ slots → StandsForNews [] s → HasNoMarks old.marks → Performs s.entries old.seen new.seen
     → ((w : ℕ) → new.marks w ≡ marks_after s.entries old.marks w) → new.sunk ≡ old.sunk → Going [] s old new ms
 going-first s slots old new ms l st fresh performed marks sunk =
     let b = starts s.settings slots old.marks l fresh in
@@ -260,29 +260,29 @@ first-possible s slots marks es l st fresh is = ap (all_possible slots marks) (i
 
 -- someone was started
 
-pub someone-first : (s : SessionSeen) (old new : HubScene) (ms : List HubScene) → IsProper s.settings [] → StandsForNews [] s → Going [] s old new ms → (w : ℕ) × ((new.marks w).started ≡ true)
+pub someone-first : (s : SessionSeen) (old new : HubScene) (ms : List TurnScene) → IsProper s.settings [] → StandsForNews [] s → Going [] s old new ms → (w : ℕ) × ((new.marks w).started ≡ true)
 someone-first s old new ms p st g = (0, g.started 0 ∙ ap (was_started 0) st.entries ∙ by_count s.settings.workers p.some_worker)
   where
     by_count : (k : ℕ) → Rattle.std.specs.Prelude.nat_le 1 k ≡ true → was_started 0 (starts_from 0 k) ≡ true
     by_count zero h = absurd (differ h)
     by_count (suc k) h = refl
 
-pub someone-still : (n : News) (s0 s1 : SessionSeen) (mid new : HubScene) (ms after : List HubScene) → TakesNews n Whole s0 s1 mid new ms after → (w : ℕ) × ((mid.marks w).started ≡ true) → (w : ℕ) × ((new.marks w).started ≡ true)
+pub someone-still : (n : News) (s0 s1 : SessionSeen) (mid new : HubScene) (ms after : List TurnScene) → TakesNews n Whole s0 s1 mid new ms after → (w : ℕ) × ((mid.marks w).started ≡ true) → (w : ℕ) × ((new.marks w).started ≡ true)
 someone-still n s0 s1 mid new ms after t w = (w.0, t.told.1.started w.0 ∙ ap (λ (b : Bool). b || was_started w.0 (t.told.0)) w.1)
 
 -- what the last step of the loop comes to
 
-pub begins : (s : SessionSeen) (slots : ℕ) (old new : HubScene) (ms : List HubScene) (es : List Entry) → es ≡ s.entries → s.settings.workers ≤ slots → StandsForNews [] s → HasNoMarks old.marks → Performs es old.seen new.seen
+pub begins : (s : SessionSeen) (slots : ℕ) (old new : HubScene) (ms : List TurnScene) (es : List Entry) → es ≡ s.entries → s.settings.workers ≤ slots → StandsForNews [] s → HasNoMarks old.marks → Performs es old.seen new.seen
     → ((w : ℕ) → new.marks w ≡ marks_after es old.marks w) → new.sunk ≡ old.sunk → Going [] s old new ms
 begins s slots old new ms es is l st fresh performed marks sunk =
     going-first s slots old new ms l st fresh (subst (λ (x : List Entry). Performs x old.seen new.seen) is performed) (λ w. marks w ∙ ap (λ (x : List Entry). marks_after x old.marks w) is) sunk
 
-pub over-ends : (given : List News) (s : SessionSeen) (old mid new : HubScene) (ms : List HubScene) (g : Going given s old mid ms) (seen_same : new.seen ≡ mid.seen) (marks_same : (w : ℕ) → new.marks w ≡ mid.marks w)
+pub over-ends : (given : List News) (s : SessionSeen) (old mid new : HubScene) (ms : List TurnScene) (g : Going given s old mid ms) (seen_same : new.seen ≡ mid.seen) (marks_same : (w : ℕ) → new.marks w ≡ mid.marks w)
     (j : Journal) → j.settings ≡ s.settings → j.entries.items ≡ s.entries → is_over (state_of s).books ≡ true → IsProper s.settings [] → (written : Written) → EndsTail written j mid.sunk new.sunk → EndsRun written s old new ms
 over-ends given s old mid new ms g a b j e f over p Whole t = (given, finished given s old mid new ms g a b j e f over t)
 over-ends given s old mid new ms g a b j e f over p (Broken count) t = (given, unfinished given s old mid new ms g a b j e f over p count (t.0 ∙ ap length f) t.1)
 
-pub stop-by : (given : List News) (n : News) (s0 s1 : SessionSeen) (old mid new : HubScene) (ms after : List HubScene) → Going given s0 old mid ms → IsProper s0.settings [] → is_over (state_of s0).books ≡ false → (written : Written) (count : ℕ) → written ≡ Broken count → TakesNews n written s0 s1 mid new ms after
+pub stop-by : (given : List News) (n : News) (s0 s1 : SessionSeen) (old mid new : HubScene) (ms after : List TurnScene) → Going given s0 old mid ms → IsProper s0.settings [] → is_over (state_of s0).books ≡ false → (written : Written) (count : ℕ) → written ≡ Broken count → TakesNews n written s0 s1 mid new ms after
     → (all : List News) × Stopped all count s1 old new after
 stop-by given n s0 s1 old mid new ms after g p on written count is t = (given ++ n ∷ [], going-stop given n s0 s1 old mid new ms after g p on count (subst (λ (o : Written). TakesNews n o s0 s1 mid new ms after) is t))
 
@@ -290,5 +290,5 @@ pub whole-of : (o : Written) → ((x : ℕ) → o ≡ Broken x → ⊥) → o �
 whole-of Whole h = refl
 whole-of (Broken x) h = absurd (h x refl)
 
-pub takes-whole : (n : News) (s0 s1 : SessionSeen) (mid new : HubScene) (ms after : List HubScene) (written : Written) → ((x : ℕ) → written ≡ Broken x → ⊥) → TakesNews n written s0 s1 mid new ms after → TakesNews n Whole s0 s1 mid new ms after
+pub takes-whole : (n : News) (s0 s1 : SessionSeen) (mid new : HubScene) (ms after : List TurnScene) (written : Written) → ((x : ℕ) → written ≡ Broken x → ⊥) → TakesNews n written s0 s1 mid new ms after → TakesNews n Whole s0 s1 mid new ms after
 takes-whole n s0 s1 mid new ms after written h t = subst (λ (o : Written). TakesNews n o s0 s1 mid new ms after) (whole-of written h) t

@@ -12,7 +12,7 @@ use Rattle.xd_run_laws.proofs.Logic.{differ}
 use Rattle.xd_report.specs.Lines.{run_lines}
 use Rattle.xd_drive.specs.Marks.{no_marks}
 use Rattle.xd_drive.specs.Moments.{IsBetween}
-use Rattle.xd_drive.specs.Seen.{HubScene, HubSeen}
+use Rattle.xd_drive.specs.Seen.{HubScene, HubSeen, TurnScene}
 use Rattle.xd_drive.specs.Taken.{run_given}
 
 -- one worker, which is ready and has the test a
@@ -29,11 +29,15 @@ collected = record { worker = 0; what = what.Collected ((97 ∷ []) ∷ []) }
 abbrev line : List ℕ
 line = run_lines one_worker (run_given one_worker (ready ∷ collected ∷ [])).entries
 
-abbrev scene : List Entry → List News → List ℕ → HubScene
-scene calls given bytes = record { marks = λ w. no_marks; seen = Some (record { calls = calls; given = given }); sunk = Some (record { bytes = bytes; flushed = length bytes; closed = false }) }
+abbrev scene : List Entry → List News → List ℕ → TurnScene
+scene calls given bytes = record { seen = Some (record { calls = calls; given = given }); sunk = Some (record { bytes = bytes; flushed = length bytes; closed = false }) }
+
+-- nothing was called for, given or printed
+abbrev first : HubScene
+first = record { marks = λ w. no_marks; seen = (scene [] [] []).seen; sunk = (scene [] [] []).sunk }
 
 -- the line was handed on, and the worker was not told to run the test
-in_time : IsBetween one_worker (ready ∷ []) collected (scene [] [] []) (scene (Start 0 0 ∷ []) (ready ∷ collected ∷ []) line)
+in_time : IsBetween one_worker (ready ∷ []) collected first (scene (Start 0 0 ∷ []) (ready ∷ collected ∷ []) line)
 in_time = record { tells = refl; shows = inr refl }
 
 abbrev is_none : {A : Type 0} → List A → Bool
@@ -49,12 +53,12 @@ called_once None = true
 called_once (Some s) = is_none (drop 1 s.calls)
 
 -- it was not handed on yet, and is not empty
-too_late : (line ≡ [] → ⊥) → IsBetween one_worker (ready ∷ []) collected (scene [] [] []) (scene (Start 0 0 ∷ []) (ready ∷ collected ∷ []) []) → ⊥
+too_late : (line ≡ [] → ⊥) → IsBetween one_worker (ready ∷ []) collected first (scene (Start 0 0 ∷ []) (ready ∷ collected ∷ []) []) → ⊥
 too_late some b = elim b.shows [
   | inl h ↦ some h.0
   | inr h ↦ some (sym (ap bytes_in h))
 ]
 
 -- the worker was told before
-performed_before : IsBetween one_worker (ready ∷ []) collected (scene [] [] []) (scene (Start 0 0 ∷ Run 0 (0 ∷ []) ∷ Shutdown 0 ∷ []) (ready ∷ collected ∷ []) line) → ⊥
+performed_before : IsBetween one_worker (ready ∷ []) collected first (scene (Start 0 0 ∷ Run 0 (0 ∷ []) ∷ Shutdown 0 ∷ []) (ready ∷ collected ∷ []) line) → ⊥
 performed_before b = (let n : false ≡ true = ap called_once b.tells in differ n)

@@ -14,13 +14,13 @@ use Rattle.xd_session.specs.Stands.{SessionSeen, state_of}
 use Rattle.xd_drive.specs.declared.written.Written.{Written}
 use Rattle.xd_drive.specs.declared.written.Written.TheVariants.{Broken as BrokenAt}
 use Rattle.xd_drive.specs.Going.{EndsRun}
-use Rattle.xd_drive.specs.Seen.{HubScene}
+use Rattle.xd_drive.specs.Seen.{HubScene, TurnScene}
 use Rattle.xd_drive.specs.Taken.{taken_of}
 use Rattle.xd_drive.proofs.Driven.{whole-by}
 use Rattle.xd_drive.proofs.Loop.{whole-of}
 
 -- where all was printed
-pub status-driven : (settings : Settings) (s : SessionSeen) (j : Journal) → IsProper settings [] → s.settings ≡ settings → j.settings ≡ s.settings → (written : Written) (old new : HubScene) (ms : List HubScene) → ((x : ℕ) → written ≡ BrokenAt x → ⊥)
+pub status-driven : (settings : Settings) (s : SessionSeen) (j : Journal) → IsProper settings [] → s.settings ≡ settings → j.settings ≡ s.settings → (written : Written) (old new : HubScene) (ms : List TurnScene) → ((x : ℕ) → written ≡ BrokenAt x → ⊥)
     → j.entries.items ≡ s.entries ++ ending false (state_of s).books → stop_of j ≡ last_stop false (state_of s).books → EndsRun written s old new ms
     → status_in (after_entries (no_one s.settings) s.entries) (run_end_of (after_entries (no_one s.settings) s.entries).books) ≡ status_of j
 status-driven settings s j proper kept same written old new ms none is stop e =

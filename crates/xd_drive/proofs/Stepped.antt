@@ -28,7 +28,7 @@ use Rattle.xd_drive.specs.Going.{TakesNews, TellsEntries, added_by}
 use Rattle.xd_journal.specs.Said.{is_end}
 use Rattle.xd_drive.specs.Marks.{Marks, marked_heard}
 use Rattle.xd_drive.specs.Moments.{NotesTurn}
-use Rattle.xd_drive.specs.Seen.{GaveNews, HubScene, HubSeen, Performs}
+use Rattle.xd_drive.specs.Seen.{GaveNews, HubScene, HubSeen, Performs, TurnScene}
 use Rattle.xd_drive.specs.Performing.{marks_after, marks_after_entry, all_possible, entries_between, is_start_of, was_started}
 use Rattle.xd_report.specs.Printing.{ShowsLines}
 use Rattle.xd_drive.specs.Taken.{taken_with}
@@ -83,11 +83,11 @@ module _ (s0 s1 : SessionSeen) (taken : List News) (n : News) (st0 : StandsForNe
     follows-following r f = follows-same r j.settings s1.settings (take to j.entries.items) s1.entries settings_are
         (ap (λ (k : ℕ). take k j.entries.items) last ∙ ap (take (length s1.entries)) entries_are ∙ take_all (length s1.entries) s1.entries (omega arith)) f
 
-pub tells-as : (shown : Bool) (es fs : List Entry) (a b : List ℕ) (old new : HubScene) (ms after : List HubScene) → es ≡ fs → a ≡ b → TellsEntries shown es a old new ms after → TellsEntries shown fs b old new ms after
+pub tells-as : (shown : Bool) (es fs : List Entry) (a b : List ℕ) (old new : HubScene) (ms after : List TurnScene) → es ≡ fs → a ≡ b → TellsEntries shown es a old new ms after → TellsEntries shown fs b old new ms after
 tells-as shown es fs a b old new ms after e l t = subst (λ (x : List Entry). TellsEntries shown x b old new ms after) e (subst (λ (x : List ℕ). TellsEntries shown es x old new ms after) l t)
 
 -- lines that were printed, a moment that was noted, and entries that were performed
-pub tells-turn : (shown : Bool) → shown ≡ true → (es fs : List Entry) → fs ≡ es → (lines : List ℕ) (old new : HubScene) (ms after : List HubScene) → Performs fs old.seen new.seen → ((w : ℕ) → new.marks w ≡ marks_after fs old.marks w)
+pub tells-turn : (shown : Bool) → shown ≡ true → (es fs : List Entry) → fs ≡ es → (lines : List ℕ) (old new : HubScene) (ms after : List TurnScene) → Performs fs old.seen new.seen → ((w : ℕ) → new.marks w ≡ marks_after fs old.marks w)
     → NotesTurn true old new ms after → ShowsLines shown lines old.sunk new.sunk → TellsEntries true es lines old new ms after
 tells-turn shown is es fs same lines old new ms after performed marks notes shows = record {
   performed = subst (λ (l : List Entry). Performs l old.seen new.seen) same performed;
@@ -140,7 +140,7 @@ nothing-performed : (old new : Option HubSeen) → Performs [] old new → new �
 nothing-performed old new h = h ∙ sym (performs-none old)
 
 -- a piece of news that was given
-module _ (s : SessionSeen) (proper : IsProper s.settings []) (n : News) (old mid : HubScene) (ms after : List HubScene)
+module _ (s : SessionSeen) (proper : IsProper s.settings []) (n : News) (old mid : HubScene) (ms after : List TurnScene)
     (gave : GaveNews n old.seen mid.seen) (heard : (w : ℕ) → mid.marks w ≡ marked_heard n w (old.marks w)) (sunk : mid.sunk ≡ old.sunk)
     (agrees : Agrees (state_of s).books old.marks) (known : (old.marks n.worker).started ≡ true) where
   marks-are : mid.marks ≡ (λ w. marked_heard n w (old.marks w))
@@ -150,8 +150,8 @@ module _ (s : SessionSeen) (proper : IsProper s.settings []) (n : News) (old mid
   taken-is b taken st h = ap (λ (q : Bool). if q then taken ++ n ∷ [] else taken) (ap (λ (x : State). is_active n.worker x.books) (sym (state-is s taken proper st)) ∙ h)
 
   -- it is dropped
-  pub dropped : is_active n.worker (state_of s).books ≡ false → after ≡ ms ++ mid ∷ [] → (m : News) × TakesNews m Whole s s old mid ms after
-  dropped off noted = (
+  pub dropped : is_active n.worker (state_of s).books ≡ false → (t : TurnScene) → t.seen ≡ mid.seen → t.sunk ≡ mid.sunk → after ≡ ms ++ t ∷ [] → (m : News) × TakesNews m Whole s s old mid ms after
+  dropped off t seen printed noted = (
     n,
     record {
       settings = refl;
@@ -163,10 +163,10 @@ module _ (s : SessionSeen) (proper : IsProper s.settings []) (n : News) (old mid
           tells = gave-performed n [] old.seen mid.seen mid.seen gave (performs-none mid.seen);
           agrees = subst (λ (f : ℕ → Marks). Agrees (state_of s).books f) (sym marks-are) (agrees-inactive (state_of s).books old.marks n (sym (agrees.started n.worker) ∙ known) off agrees);
           started = λ w. ap (λ (x : Marks). x.started) (heard w) ∙ or-none (old.marks w).started;
-          between = mid;
+          between = t;
           notes = noted;
-          gave = gave;
-          printed = refl;
+          gave = seen ∙ gave;
+          printed = printed;
           shows = inl (refl, sunk);
         },
       );

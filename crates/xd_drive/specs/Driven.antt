@@ -15,7 +15,7 @@ use Rattle.xd_drive.specs.Failing.{FailedAt}
 use Rattle.xd_drive.specs.ItemIds.{NamesItems}
 use Rattle.xd_drive.specs.Moments.{LinesFirst, LinesFirstOf}
 use Rattle.xd_drive.specs.Performing.{kills_of_started}
-use Rattle.xd_drive.specs.Seen.{HubScene, HubTells}
+use Rattle.xd_drive.specs.Seen.{HubScene, HubTells, TurnScene}
 use Rattle.xd_drive.specs.Taken.{AreInTime, run_given, taken_of}
 
 -- The journal of the news that were given, with its end: where the output failed that is the stop, else the first stop of
@@ -27,7 +27,7 @@ pub record Ended (failed : Bool) (given : List News) (j : Journal) : Type 0 wher
   pub in_time : AreInTime j.settings given
 
 -- The run is over: what the journal asks for was performed, after its lines, and its whole report was printed.
-pub record Whole (given : List News) (j : Journal) (old new : HubScene) (moments : List HubScene) : Type 0 where
+pub record Whole (given : List News) (j : Journal) (old new : HubScene) (moments : List TurnScene) : Type 0 where
   pub ended : Ended false given j
   pub tells : HubTells j.entries.items given old.seen new.seen
   pub lines_first : LinesFirst j.settings given old moments
@@ -36,7 +36,7 @@ pub record Whole (given : List News) (j : Journal) (old new : HubScene) (moments
 -- The output failed: `count` entries were performed, each after its lines, and of the others the kills of the workers
 -- that these had started; of the report a first part was taken.
 -- Example: the flush after a death's lines fails: its Start is not called for, and so no Kill of that worker.
-pub record Broken (count : ℕ) (given : List News) (j : Journal) (old new : HubScene) (moments : List HubScene) : Type 0 where
+pub record Broken (count : ℕ) (given : List News) (j : Journal) (old new : HubScene) (moments : List TurnScene) : Type 0 where
   pub ended : Ended true given j
   pub tells : HubTells (take count j.entries.items ++ kills_of_started (take count j.entries.items) (drop count j.entries.items)) given old.seen new.seen
   pub lines_first : LinesFirstOf (take count j.entries.items) j.settings given old moments
@@ -55,7 +55,7 @@ pub record IsJournalOf (run : Settings) (j : Journal) : Type 0 where
 
 -- What a session came to that was driven to its end, by what was seen of the hub and the output before and after it, and at
 -- the moments between: its journal, by whether the output failed.
-pub record Drove (run : Settings) (j : Journal) (old new : HubScene) (moments : List HubScene) : Type 0 where
+pub record Drove (run : Settings) (j : Journal) (old new : HubScene) (moments : List TurnScene) : Type 0 where
   pub journal : IsJournalOf run j
   pub whole : is_out_fault (stop_of j) ≡ false → (given : List News) × Whole given j old new moments
   pub broken : is_out_fault (stop_of j) ≡ true → (count : ℕ) × (given : List News) × Broken count given j old new moments

@@ -9,30 +9,33 @@ use Rattle.xd_trace.specs.Each.{EachHasMoment}
 use Rattle.xd_trace.specs.Noted.{moments}
 use Rattle.xd_trace.specs.declared.moments.Moments.{Moments}
 use Rattle.xd_report.specs.Lines.{run_lines}
-use Rattle.xd_drive.specs.Marks.{Marks}
-use Rattle.xd_drive.specs.Seen.{HubScene, HubSeen, HubTells, scene_of}
+use Rattle.xd_drive.specs.Seen.{HubScene, HubSeen, HubTells, TurnScene}
 use Rattle.xd_drive.specs.Taken.{run_given}
 
-module _ {H O : Type 0} (marks : H → ℕ → Marks) (seen : H → Option HubSeen) (sunk : O → Option Sunk) where
-  -- what was seen of the hub and the output at these moments, by what these tell
-  abbrev pub scenes_of : Moments H O → List HubScene
-  scenes_of m = map (λ p. scene_of marks seen sunk p.0 p.1) (moments m)
+module _ {K O : Type 0} (tells : K → Option HubSeen) (sunk : O → Option Sunk) where
+  -- what was seen at one moment of what a hub keeps, and of the output
+  abbrev pub scene_at : K → O → TurnScene
+  scene_at kept out = record { seen = tells kept; sunk = sunk out }
+
+  -- the same at these moments
+  abbrev pub turns_of : Moments K O → List TurnScene
+  turns_of m = map (λ p. scene_at p.0 p.1) (moments m)
 
 -- At this moment the hub had given these news and this one, and been called for no more than what these make; the output had
 -- taken the lines of what these and this one make, and handed them on. So what this one makes is performed after its lines,
 -- and they are printed before the next one is waited for.
 -- Example: gw0 dies and gw1 replaces it: the lines of both were handed on, gw1 was not started, and nothing was heard since.
-pub record IsBetween (settings : Settings) (before : List News) (n : News) (old m : HubScene) : Type 0 where
+pub record IsBetween (settings : Settings) (before : List News) (n : News) (old : HubScene) (m : TurnScene) : Type 0 where
   pub tells : HubTells (run_given settings before).entries (before ++ n ∷ []) old.seen m.seen
   pub shows : ShowsSome (run_lines settings (run_given settings (before ++ n ∷ [])).entries) old.sunk m.sunk
 
 -- Each of these news had such a moment.
-abbrev pub LinesFirst : Settings → List News → HubScene → List HubScene → Type 0
+abbrev pub LinesFirst : Settings → List News → HubScene → List TurnScene → Type 0
 LinesFirst settings given old moments = EachHasMoment (λ before n m. IsBetween settings before n old m) given moments
 
 -- Those of these news had such a moment that make these entries, which were performed.
 -- Example: the output fails at the lines of the last news: all the others had one.
-pub record LinesFirstOf (performed : List Entry) (settings : Settings) (given : List News) (old : HubScene) (moments : List HubScene) : Type 0 where
+pub record LinesFirstOf (performed : List Entry) (settings : Settings) (given : List News) (old : HubScene) (moments : List TurnScene) : Type 0 where
   pub told : List News
   pub rest : List News
   pub split : given ≡ told ++ rest
@@ -41,6 +44,6 @@ pub record LinesFirstOf (performed : List Entry) (settings : Settings) (given : 
 
 -- What is printed and performed together notes the moment between: the hub was as it had been, the output as it came to be.
 -- Where the output failed it notes none.
-abbrev pub NotesTurn : Bool → HubScene → HubScene → List HubScene → List HubScene → Type 0
-NotesTurn true old new before after = (m : HubScene) × (after ≡ before ++ m ∷ []) × (m.seen ≡ old.seen) × (m.sunk ≡ new.sunk)
+abbrev pub NotesTurn : Bool → HubScene → HubScene → List TurnScene → List TurnScene → Type 0
+NotesTurn true old new before after = (m : TurnScene) × (after ≡ before ++ m ∷ []) × (m.seen ≡ old.seen) × (m.sunk ≡ new.sunk)
 NotesTurn false old new before after = after ≡ before

@@ -51,6 +51,11 @@ pub record HubScene : Type 0 where
   pub seen : Option HubSeen
   pub sunk : Option Sunk
 
+-- what a hub had told, and what the output had taken, at a moment
+pub record TurnScene : Type 0 where
+  pub seen : Option HubSeen
+  pub sunk : Option Sunk
+
 module _ {H O : Type 0} (marks : H → ℕ → Marks) (seen : H → Option HubSeen) (sunk : O → Option Sunk) where
   -- what is seen of this hub and this output, by what hubs and outputs of their types tell
   abbrev pub scene_of : H → O → HubScene

@@ -147,6 +147,14 @@ impl Hub for ListedHub {
 
     ghost seen = { λ h. Some (record { calls = h.calls.items; given = h.given.items }) };
 
+    type Kept = ListedHub;
+
+    ghost tells = { λ h. Some (record { calls = h.calls.items; given = h.given.items }) };
+
+    fn kept(&self) -> &ListedHub {
+        self
+    }
+
     fn start(&mut self, _alloc: Global, worker: u32, slot: u32) -> Result<(), OutOfMemory>
         requires new { is_listed worker self.old.started ≡ false }
         requires slot { slot < 32 }

@@ -10,7 +10,7 @@ ghost use Rattle.xd_report.specs.Lines.{lines_between, lines_from};
 ghost use Rattle.xd_session.specs.Stands.{StandsForNews, state_of};
 ghost use Rattle.xd_drive.specs.Agrees.{Agrees};
 ghost use Rattle.xd_drive.specs.Going.{TakesNews, TellsEntries, added_by};
-ghost use Rattle.xd_drive.specs.Moments.{scenes_of};
+ghost use Rattle.xd_drive.specs.Moments.{turns_of};
 ghost use Rattle.xd_drive.specs.Performing.{all_possible, entries_between};
 ghost use Rattle.xd_drive.specs.Seen.{scene_of};
 ghost use Rattle.xd_drive.specs.inner.Written.{is_whole};
@@ -37,7 +37,7 @@ fn tell_entries<H: Hub, O: Sink>(
     to: usize,
     hub: &mut H,
     out: &mut O,
-    moments: &mut Moments<H, O>,
+    moments: &mut Moments<H::Kept, O>,
 ) -> Result<bool, OutOfMemory>
     requires order { from ≤ to }
     requires within { to ≤ length journal.now.entries.items }
@@ -50,8 +50,8 @@ fn tell_entries<H: Hub, O: Sink>(
         (lines_between journal.now from to)
         (scene_of H.marks H.seen O.sunk hub.old out.old)
         (scene_of H.marks H.seen O.sunk hub.new out.new)
-        (scenes_of H.marks H.seen O.sunk moments.old)
-        (scenes_of H.marks H.seen O.sunk moments.new)) }
+        (turns_of H.tells O.sunk moments.old)
+        (turns_of H.tells O.sunk moments.new)) }
     ensures follows { OnOk result
         (Follows reporter.new (after_entries (no_one journal.now.settings)
         (take to journal.now.entries.items))) }
@@ -63,7 +63,7 @@ fn tell_entries<H: Hub, O: Sink>(
     if !shown {
         return Ok(false);
     }
-    moments.look(hub, out);
+    moments.look(hub.kept(), out);
     perform(alloc, hub, &journal.entries[from..to])?;
     Ok(true)
 }
@@ -84,7 +84,7 @@ fn tell_news<M: Mode, H: Hub, O: Sink>(
     news: News,
     hub: &mut H,
     out: &mut O,
-    moments: &mut Moments<H, O>,
+    moments: &mut Moments<H::Kept, O>,
 ) -> Result<bool, OutOfMemory>
     requires stands { (taken : List News) × StandsForNews taken session.old }
     requires follows { Follows reporter.old
@@ -102,8 +102,8 @@ fn tell_news<M: Mode, H: Hub, O: Sink>(
         (added_by session.old.settings taken news))
         (scene_of H.marks H.seen O.sunk hub.old out.old)
         (scene_of H.marks H.seen O.sunk hub.new out.new)
-        (scenes_of H.marks H.seen O.sunk moments.old)
-        (scenes_of H.marks H.seen O.sunk moments.new)) }
+        (turns_of H.tells O.sunk moments.old)
+        (turns_of H.tells O.sunk moments.new)) }
     ensures follows { OnOk result
         (Follows reporter.new (after_entries (no_one session.new.settings) session.new.entries)) }
     ensures made { H.made hub.new ≡ H.made hub.old }
@@ -133,7 +133,7 @@ pub(crate) fn take_news<R: Wait, M: Mode, H: Hub, O: Sink>(
     reporter: &mut Reporter,
     hub: &mut H,
     out: &mut O,
-    moments: &mut Moments<H, O>,
+    moments: &mut Moments<H::Kept, O>,
 ) -> Result<Written, OutOfMemory>
     requires proper { IsProper session.old.settings [] }
     requires stands { (taken : List News) × StandsForNews taken session.old }
@@ -145,8 +145,8 @@ pub(crate) fn take_news<R: Wait, M: Mode, H: Hub, O: Sink>(
     ensures takes { IfOk result (λ written. (n : News) × TakesNews n written session.old session.new
         (scene_of H.marks H.seen O.sunk hub.old out.old)
         (scene_of H.marks H.seen O.sunk hub.new out.new)
-        (scenes_of H.marks H.seen O.sunk moments.old)
-        (scenes_of H.marks H.seen O.sunk moments.new)) }
+        (turns_of H.tells O.sunk moments.old)
+        (turns_of H.tells O.sunk moments.new)) }
     ensures follows { OnOk result
         (Follows reporter.new (after_entries (no_one session.new.settings) session.new.entries)) }
     ensures made { H.made hub.new ≡ H.made hub.old }
@@ -156,7 +156,7 @@ pub(crate) fn take_news<R: Wait, M: Mode, H: Hub, O: Sink>(
 {
     let news = hub.next(rt, alloc)?;
     if !session.is_active(news.worker) {
-        moments.look(hub, out);
+        moments.look(hub.kept(), out);
         return Ok(Written::Whole);
     }
     let performed = entry_count(session.journal());

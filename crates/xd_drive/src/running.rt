@@ -12,7 +12,7 @@ ghost use Rattle.xd_session.specs.Ends.{is_out_fault};
 ghost use Rattle.xd_session.specs.Stands.{StandsForNews};
 ghost use Rattle.xd_drive.specs.Driven.{Drove};
 ghost use Rattle.xd_drive.specs.Going.{EndsRun, EndsTail, HasNoMarks};
-ghost use Rattle.xd_drive.specs.Moments.{scenes_of};
+ghost use Rattle.xd_drive.specs.Moments.{turns_of};
 ghost use Rattle.xd_drive.specs.Seen.{scene_of};
 ghost use Rattle.xd_drive.specs.inner.Written.{is_whole};
 
@@ -31,13 +31,13 @@ use xd_trace::Moments;
 
 /// What a session that was driven to its end came to.
 #[derive(Drop)]
-pub struct DrivenRun<H, O> {
+pub struct DrivenRun<K, O> {
     /// The journal, with its end.
     pub journal: Journal,
     /// The exit status of the journal.
     pub status: u8,
-    /// How the hub and the output stood after the lines of each piece of news. Clauses alone read it.
-    pub moments: Moments<H, O>,
+    /// How what the hub keeps and the output stood after the lines of each piece of news. Clauses alone read it.
+    pub moments: Moments<K, O>,
 }
 
 // Prints the tail of a journal that was performed, and closes the output.
@@ -65,7 +65,7 @@ fn run<R: Wait, M: Mode, H: Hub, O: Sink>(
     reporter: &mut Reporter,
     hub: &mut H,
     out: &mut O,
-    moments: &mut Moments<H, O>,
+    moments: &mut Moments<H::Kept, O>,
 ) -> Result<Written, OutOfMemory>
     requires proper { IsProper session.old.settings [] }
     requires begins { StandsForNews [] session.old }
@@ -76,7 +76,7 @@ fn run<R: Wait, M: Mode, H: Hub, O: Sink>(
     ensures ends { IfOk result (λ written. EndsRun written session.new
         (scene_of H.marks H.seen O.sunk hub.old out.old)
         (scene_of H.marks H.seen O.sunk hub.new out.new)
-        (scenes_of H.marks H.seen O.sunk moments.new)) }
+        (turns_of H.tells O.sunk moments.new)) }
     ensures settings { OnOk result (session.new.settings ≡ session.old.settings) }
     ensures follows { OnOk result
         (Follows reporter.new (after_entries (no_one session.new.settings) session.new.entries)) }
@@ -132,14 +132,14 @@ pub fn drive<R: Wait, M: Mode, H: Hub, O: Sink>(
     mut session: Session<M>,
     hub: &mut H,
     out: &mut O,
-) -> Result<DrivenRun<H, O>, OutOfMemory>
+) -> Result<DrivenRun<H::Kept, O>, OutOfMemory>
     requires begins { StandsForNews [] session }
     requires slots { session.settings.workers ≤ H.slots (H.made hub.old) }
     requires fresh { HasNoMarks (H.marks hub.old) }
     ensures drove { IfOk result (λ r. Drove session.settings r.journal
         (scene_of H.marks H.seen O.sunk hub.old out.old)
         (scene_of H.marks H.seen O.sunk hub.new out.new)
-        (scenes_of H.marks H.seen O.sunk r.moments)) }
+        (turns_of H.tells O.sunk r.moments)) }
     ensures status { IfOk result (λ r. r.status ≡ status_of r.journal) }
     ensures counted { IfOk result (λ r.
         Counted (not (is_out_fault (stop_of r.journal))) (O.faults out.old) (O.faults out.new)) }

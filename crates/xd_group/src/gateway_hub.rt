@@ -7,6 +7,7 @@ ghost use Rattle.xd_drive.specs.Calls.{is_order};
 ghost use Rattle.xd_journal.specs.Said.{is_breach};
 ghost use Rattle.xd_drive.specs.Marks.{marked_heard, marked_started, may_tell};
 ghost use Rattle.xd_trace.specs.Noted.{noted};
+ghost use Rattle.xd_group.specs.Diaries.{diary_tells};
 ghost use Rattle.xd_journal.specs.declared.entry.Entry.{Entry};
 ghost use Rattle.xd_journal.specs.declared.news.News.{News};
 ghost use Rattle.xd_edge.specs.declared.mode.ModeKind.{ModeKind};
@@ -173,10 +174,15 @@ impl<St: Starter, C: Crew<Reader<St::Src>>> Hub for GatewayHub<St, C> {
 
     ghost marks = { λ h w. marks_told (noted h.group.diary.calls) (noted h.group.diary.given) w };
 
-    ghost seen = { λ h. Some (record {
-      calls = noted h.group.diary.calls;
-      given = noted h.group.diary.given;
-    }) };
+    ghost seen = { λ h. diary_tells h.group.diary };
+
+    type Kept = Diary;
+
+    ghost tells = { λ d. diary_tells d };
+
+    fn kept(&self) -> &Diary {
+        &self.group.diary
+    }
 
     fn start(&mut self, alloc: Global, worker: u32, slot: u32) -> Result<(), OutOfMemory>
         requires new { (marks_told (noted self.old.group.diary.calls)

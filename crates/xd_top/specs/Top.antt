@@ -2,9 +2,7 @@
 use Rattle.std.specs.Prelude.{ℕ, ◌≡◌, Bool, true, false, List, [], Option, Some, None}
 use Rattle.xd_edge.specs.Sink.{Sunk}
 use Rattle.xd_trace.specs.declared.moments.Moments.{Moments}
-use Rattle.xd_journal.specs.declared.entry.Entry.{Entry}
-use Rattle.xd_journal.specs.declared.news.News.{News}
-use Rattle.xd_drive.specs.Seen.{HubScene}
+use Rattle.xd_drive.specs.Seen.{TurnScene}
 use Rattle.xd_local.specs.Local.{RoundSeen}
 use Rattle.xd_journal.specs.declared.journal.Journal.{Journal}
 use Rattle.xd_link.specs.declared.place.Place.{Place}
@@ -12,7 +10,10 @@ use Rattle.xd_link.specs.declared.place.Place.TheVariants.{Listen, Own}
 use Rattle.xd_top.specs.declared.refusal.Refusal.TheVariants as refusal
 use Rattle.xd_top.specs.Linked.{DidLinked}
 use Rattle.xd_top.specs.Named.{DidLocal, around}
-use Rattle.xd_dist.specs.Linked.{EndedLink, scenes_told}
+use Rattle.xd_drive.specs.Moments.{turns_of}
+use Rattle.xd_group.specs.declared.diary.Diary.{Diary}
+use Rattle.xd_group.specs.Diaries.{diary_tells}
+use Rattle.xd_dist.specs.Linked.{EndedLink}
 use Rattle.xd_top.specs.Outside.{Outside, workplace}
 use Rattle.xd_top.specs.Refusal.{Refuses}
 use Rattle.xd_top.specs.Wire.{DidWire}
@@ -28,14 +29,14 @@ pub record End : Type 0 where
   pub status : ℕ
   pub journal : Option Journal
   pub links : List EndedLink
-  pub turns : List HubScene
+  pub turns : List TurnScene
   pub tests : List RoundSeen
 
-module _ {H O : Type 0} (calls : H → List Entry) (given : H → List News) (sunk : O → Option Sunk) where
+module _ {O : Type 0} (sunk : O → Option Sunk) where
   -- what was seen of a hub and the output at these moments, where there are any
-  abbrev pub turns_seen : Option (Moments H O) → List HubScene
+  abbrev pub turns_seen : Option (Moments Diary O) → List TurnScene
   turns_seen None = []
-  turns_seen (Some m) = scenes_told calls given sunk m
+  turns_seen (Some m) = turns_of diary_tells sunk m
 
 -- wire: no run
 pub record Messages (file : List ℕ) (end : End) (old new : Outside) : Type 0 where

@@ -2,7 +2,6 @@
 ghost use Rattle.std.specs.Prelude.{◌≡◌, [], false, IfNone, IfOk};
 ghost use Rattle.xd_dist.specs.Linked.{ended_links};
 ghost use Rattle.xd_edge.specs.Clock.{ticking};
-ghost use Rattle.xd_trace.specs.Noted.{noted};
 ghost use Rattle.xd_top.specs.Named.{tests_seen};
 ghost use Rattle.xd_top.specs.Top.{Did, has_links, turns_seen};
 ghost use Rattle.xd_words.specs.Words.{plan_of};
@@ -16,7 +15,7 @@ use std::sync::Wait;
 use xd_crew::Crew;
 use xd_dist::{LinkedSuite, run_linked};
 use xd_edge::{Children, Clock, Files, OutOfMemory, Sink, Text};
-use xd_group::{GatewayHub, LinkEnd};
+use xd_group::{Diary, LinkEnd};
 use xd_journal::Journal;
 use xd_link::{Place, Starter};
 use xd_reader::Reader;
@@ -40,7 +39,7 @@ pub struct RunEnd<St: Starter, C: Crew<Reader<St::Src>>, K: Children, O> {
     /// The programs that were handed in.
     pub children: K,
     /// How the hub of a run on workers and the output stood after the lines of each piece of news. Clauses alone read it.
-    pub turns: Option<Moments<GatewayHub<St, C>, O>>,
+    pub turns: Option<Moments<Diary, O>>,
     /// How the programs of a run without workers and the output stood after the line of each test. Clauses alone read it.
     pub tests: Option<Moments<K, O>>,
 }
@@ -90,8 +89,7 @@ pub fn xdrun<
           journal = e.journal;
           links = ended_links St.Src.supply St.Src.is_ended St.Src.faults St.Snk.sunk
               St.Snk.faults e.links.items;
-          turns = turns_seen (λ h. noted h.group.diary.calls) (λ h. noted h.group.diary.given)
-              O.sunk e.turns;
+          turns = turns_seen O.sunk e.turns;
           tests = tests_seen K.runs O.sunk e.tests;
         })
         (record {

@@ -19,7 +19,7 @@ returns-clause-runs g c =
     let crew = ap (λ p. p.4.value) made in
     runs_linked seen c.in_ok-links.links.items (record { suite = was.group.suite; settings = c.args.session.settings; places = was.places.items }) now.group.suite now.group.mode c.in_ok-driven.driven.journal calls given now.group.diary.workers.items now.group.diary.fates.items now.places.items
     _ _ _ _ _ _ _ _ _ _ _
-    (ap (λ p. p.0) made) (ap (λ p. p.1) made ∙ c.requires.mode) done.listed (ap (λ p. p.2.items) made)
+    (ap (λ p. p.0) made) (ap (λ p. p.1) made ∙ c.requires.mode) done.listed now.group.diary.matched (ap (λ p. p.2.items) made)
     (record {
       whole = λ e. whole_from c.in_ok-driven.driven.journal (noted was.group.diary.calls) calls (noted was.group.diary.given) given _ _ _ c.requires.no_calls c.requires.no_news (c.in_ok-driven.ensures.drove.whole e);
       broken = λ e. let b = c.in_ok-driven.ensures.drove.broken e in broken_from c.in_ok-driven.driven.journal (noted was.group.diary.calls) calls (noted was.group.diary.given) given _ _ _ c.requires.no_calls c.requires.no_news (b.0, b.1, b.2);
