@@ -1,6 +1,7 @@
 use Rattle.std.proofs.Common.{◌≡◌, refl}
-use Rattle.xd_trace.specs.Noted.{noted}
-use Rattle.xd_dist.specs.Linked.{Setup, ended_links, links_seen, scenes_told, setup_of}
+use Rattle.xd_drive.specs.Moments.{turns_of}
+use Rattle.xd_group.specs.Diaries.{diary_tells}
+use Rattle.xd_dist.specs.Linked.{Setup, ended_links, links_seen, setup_of}
 use Rattle.xd_dist.proofs.Facts.{by_three}
 use Rattle.xd_dist.proofs.Linking.{linked_run, seen_as}
 use Rattle.xd_dist.proofs.linked.run_in.Goals as goal
@@ -14,11 +15,11 @@ returns-clause-ran g c =
     by_three c.end_of.result c.end_of.ensures.ended c.end_of.ensures.starter c.end_of.ensures.crew
     (λ e ended starter crew. linked_run c.run_over-ended.result
     (λ links. ended_links g.St.Src.Source.supply g.St.Src.Source.is_ended g.St.Src.Source.faults g.St.Snk.Sink.sunk g.St.Snk.Sink.faults links.items)
-    (λ d. scenes_told (λ h. noted h.group.diary.calls) (λ h. noted h.group.diary.given) g.O.Sink.sunk d.moments)
+    (λ d. turns_of diary_tells g.O.Sink.sunk d.moments)
     now (setup_of c.args.suite) _ _ (record { journal = e.journal; status = e.status; moments = e.moments }) e.links
     same ended run.status
     run.journal
-    (rw (starter, crew, c.join_left.ensures) (seen_as c.run_over-ended.result _ (λ d. scenes_told (λ h. noted h.group.diary.calls) (λ h. noted h.group.diary.given) g.O.Sink.sunk d.moments) now _
+    (rw (starter, crew, c.join_left.ensures) (seen_as c.run_over-ended.result _ (λ d. turns_of diary_tells g.O.Sink.sunk d.moments) now _
     (λ h. links_seen (g.St.Starter.begun h.children.starter) (g.St.Starter.faults h.children.starter) (g.C.Crew.faults h.group.links.crew)
     (g.O.Sink.sunk c.run_over-ended.new.out) (g.O.Sink.faults c.run_over-ended.new.out))
     c.run_over-ended.new.hub c.end_workers.new.hub c.end_workers.ensures.same (rw (hub.starter.1, hub.crew.1) at run.runs)))
