@@ -8,7 +8,7 @@ use Rattle.xd_gateway.proofs.Ears.{one_news}
 use Rattle.xd_system.specs.Moment.{IsFirstPart}
 
 -- a first part of what ends with one more is that without it, or all
-last_or_less : {A : Type 0} (first xs later : List A) (x : A) → xs ++ x ∷ [] ≡ first ++ later → IsFirstPart first xs ⊎ (first ≡ xs ++ x ∷ [])
+pub last_or_less : {A : Type 0} (first xs later : List A) (x : A) → xs ++ x ∷ [] ≡ first ++ later → IsFirstPart first xs ⊎ (first ≡ xs ++ x ∷ [])
 last_or_less [] xs later x e = inl (xs, refl)
 last_or_less (y ∷ first) [] later x e = by_first first (let z = e in cc) (let z = e in cc)
   where

@@ -47,7 +47,7 @@ filter_more p (x ∷ xs) ys = go (p x) (filter_more p xs ys)
     go true h = ap (λ (l : List Entry). x ∷ l) h
     go false h = h
 
-orders_as_entries : (w : ℕ) (es : List Entry) → filter_map order_of (entries_to w es) ≡ told_to w es
+pub orders_as_entries : (w : ℕ) (es : List Entry) → filter_map order_of (entries_to w es) ≡ told_to w es
 orders_as_entries w [] = refl
 orders_as_entries w (e ∷ es) = go (is_told_to w e) (orders_as_entries w es)
   where

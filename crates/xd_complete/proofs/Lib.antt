@@ -1,0 +1,10 @@
+pub mod Alive
+pub mod Begun
+pub mod Complete
+pub mod Entries
+pub mod Honest
+pub mod Links
+pub mod Lists
+pub mod Quiet
+pub mod Taken
+pub mod Written
