@@ -1,7 +1,9 @@
 pub mod Agreeing
 pub mod Coming
 pub mod Exact
+pub mod Limits
 pub mod Lone
+pub mod Once
 pub mod Playing
 pub mod Tells
 pub mod Unique

@@ -11,6 +11,8 @@ ghost use Rattle.xd_session.specs.History.{run_of};
 ghost use Rattle.xd_session.specs.Stands.{CanBegin};
 ghost use Rattle.xd_replay.specs.Alone.{AreAlone, all_kept, most_retries};
 ghost use Rattle.xd_replay.specs.Checked.{CanBeLeft, IsChecked};
+ghost use Rattle.xd_replay.specs.Verdict.{IsVerdict};
+ghost use Rattle.xd_replay.specs.declared.checking.Verdict.{Verdict};
 
 /// What a run leaves is checked. With workers: the journal of whatever news, with its end. Without workers: each legal journal
 /// that keeps no more of the output of its tests than the limits allow.
@@ -24,4 +26,9 @@ pub fn checked_law()
         AreAlone j.settings → IsLegal j →
         j.entries.items ≡ local_entries ids results ++ Over (stop_of j) ∷ [] →
         all_kept 0 results ≡ true → IsChecked j }
+{}
+
+/// Of a journal one thing is found: it is checked, or it stops being such at one place.
+pub fn verdict_law()
+    ensures { (v w : Verdict) (j : Journal) → IsVerdict v j → IsVerdict w j → v ≡ w }
 {}
