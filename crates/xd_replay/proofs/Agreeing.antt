@@ -1,5 +1,5 @@
 -- Two lists of entries up to the first place where they differ.
-use Rattle.std.proofs.Common.{◌≡◌, ℕ, ◌+◌, ◌-◌, ◌<◌, ◌≤◌, List, [], ◌∷◌, ◌++◌, drop, take, get_or, length, min, ap, ap₂, sym, ◌∙◌, arith}
+use Rattle.std.proofs.Common.{◌≡◌, ℕ, ◌+◌, ◌<◌, List, [], ◌∷◌, ◌++◌, drop, take, get_or, length, min, ap, ap₂, sym, ◌∙◌, arith}
 use Rattle.std.proofs.lemmas.List.{drop_more, length-drop, take_more}
 use Rattle.xd_journal.specs.declared.entry.Entry.{Entry}
 use Rattle.xd_replay.specs.inner.Compared.{AgreeFor}

@@ -1,8 +1,7 @@
 -- Whether an input may come, by what the session's rules say of what a worker must have said.
-use Rattle.std.proofs.Common.{◌≡◌, ℕ, suc, ◌+◌, ◌-◌, ◌≤◌, min, List, [], ◌∷◌, length, refl, ap, ap₂, sym, subst, ◌∙◌, Bool, true, false, not, ◌&&◌, arith}
-use Rattle.std.specs.Prelude.{if◌then◌else◌, ◌==◌, nat_le, Option, Some, None, is_none, is_some, option_map}
+use Rattle.std.proofs.Common.{◌≡◌, ℕ, suc, ◌+◌, ◌-◌, ◌≤◌, min, List, [], ◌∷◌, length, refl, ap, sym, subst, ◌∙◌, Bool, true, false, not, ◌&&◌, arith}
+use Rattle.std.specs.Prelude.{if◌then◌else◌, nat_le, Option, Some, None, is_none, is_some}
 use Rattle.std.specs.List.{list_all}
-use Rattle.std.specs.Str.{bytes_eq}
 use Rattle.std.proofs.lemmas.Bool.Decides.{nat_tests}
 use Rattle.std.proofs.lemmas.Slice.Eq.{bytes_eq-Decides}
 use Rattle.xd_edge.specs.Ids.{is_id}
@@ -25,16 +24,15 @@ use Rattle.xd_run.specs.Retry.{is_retry}
 use Rattle.xd_run.specs.Sharing.{State}
 use Rattle.xd_run.specs.Table.{held}
 use Rattle.xd_run.specs.Workers.{has_collected, is_active, was_ready}
-use Rattle.xd_run_laws.proofs.Logic.{and, and-false, differ, split-and}
+use Rattle.xd_run_laws.proofs.Logic.{and-false, differ, split-and}
 use Rattle.xd_session_books.specs.Known.{Known}
 use Rattle.xd_session_rules.specs.Joining.{IsToJoin}
 use Rattle.xd_session_rules.specs.Judged.{follows_where}
-use Rattle.xd_session_rules.specs.Rules.{At, Comes, Ruled}
+use Rattle.xd_session_rules.specs.Rules.{Comes, Ruled}
 use Rattle.xd_session_rules.proofs.Newcomers.{Orderly, collection, newcomer}
-use Rattle.xd_session.specs.inner.Told.{Steady}
 use Rattle.xd_replay.specs.Told.{is_told_rightly, room_at_death, room_after}
 use Rattle.xd_replay.specs.inner.Heard.{ids_told, is_follows}
-use Rattle.xd_replay.specs.inner.Replayed.{DidCome, IsKnown, MayComeNow}
+use Rattle.xd_replay.specs.inner.Replayed.{DidCome, MayComeNow}
 
 -- what is judged to follow may follow
 

@@ -1,5 +1,5 @@
 -- Where the entries of a journal stop being those of a run.
-use Rattle.std.proofs.Common.{[], ◌≡◌, ℕ, zero, suc, ◌+◌, ◌<◌, List, ◌∷◌, ◌++◌, take, drop, length, refl, ap, sym, subst, ◌∙◌, Bool, true, false, ◌&&◌, append_assoc, inl, inr, arith}
+use Rattle.std.proofs.Common.{[], ◌≡◌, ℕ, zero, suc, ◌<◌, List, ◌∷◌, ◌++◌, take, drop, length, refl, ap, sym, subst, ◌∙◌, Bool, true, false, ◌&&◌, append_assoc, inl, inr, arith}
 use Rattle.std.specs.Prelude.{◌⊎◌, filter, map, if◌then◌else◌}
 use Rattle.std.proofs.lemmas.List.{append-nil, append_cancel_left, length-append, length-drop, take_at, take-append-drop}
 use Rattle.std.proofs.lemmas.Bool.{false≢true}

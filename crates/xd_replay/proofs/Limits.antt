@@ -1,6 +1,6 @@
 -- Settings within their limits are those of runs, and no others are.
-use Rattle.std.proofs.Common.{◌≡◌, ℕ, List, [], refl, ap, sym, subst, ◌∙◌, Bool, true, false, ◌&&◌, arith, inl, inr}
-use Rattle.std.specs.Prelude.{◌==◌, nat_le, ◌⊎◌}
+use Rattle.std.proofs.Common.{◌≡◌, ℕ, List, [], refl, ap, sym, ◌∙◌, true, false, ◌&&◌, arith, inl, inr}
+use Rattle.std.specs.Prelude.{◌==◌, nat_le}
 use Rattle.std.proofs.lemmas.Bool.{false≢true}
 use Rattle.std.proofs.lemmas.Bool.Decides.{nat_tests}
 use Rattle.xd_edge.specs.declared.mode.ModeKind.{ModeKind}

@@ -1,14 +1,12 @@
 -- How the journal of a run without workers goes on, and where it stops.
-use Rattle.std.proofs.Common.{◌≡◌, ℕ, zero, suc, ◌+◌, ◌<◌, ◌≤◌, List, [], ◌∷◌, ◌++◌, take, drop, length, refl, ap, ap₂, sym, subst, ◌∙◌, Bool, true, false, ◌&&◌, ◌||◌, append_assoc, inl, inr, arith, add-zero}
-use Rattle.std.specs.Prelude.{◌⊎◌, ◌==◌, nat_le, if◌then◌else◌, Option, Some, None}
+use Rattle.std.proofs.Common.{◌≡◌, ℕ, zero, suc, ◌+◌, ◌<◌, ◌≤◌, List, [], ◌∷◌, ◌++◌, take, drop, length, refl, ap, ap₂, sym, subst, ◌∙◌, true, append_assoc, inl, inr, arith, add-zero}
+use Rattle.std.specs.Prelude.{◌⊎◌, nat_le, None}
 use Rattle.std.proofs.lemmas.Bool.{false≢true}
 use Rattle.std.proofs.lemmas.List.{append-nil, length-append, take-append-le, take_at}
-use Rattle.xd_edge.specs.declared.mode.ModeKind.{ModeKind}
 use Rattle.xd_edge.specs.declared.mode.ModeKind.TheVariants.{Local}
 use Rattle.xd_journal.specs.declared.settings.Settings.{Settings}
 use Rattle.xd_journal.specs.declared.entry.Entry.{Entry}
 use Rattle.xd_journal.specs.declared.entry.Entry.TheVariants.{Collected, Done, Over, Run}
-use Rattle.xd_journal.specs.declared.entry.Ids.{Ids}
 use Rattle.xd_journal.specs.declared.entry.Ids.TheVariants as ids_given
 use Rattle.xd_journal.specs.declared.entry.Outcome.TheVariants.{Passed}
 use Rattle.xd_journal.specs.declared.entry.RunStop.{RunStop}
@@ -20,13 +18,11 @@ use Rattle.xd_run.specs.Ending.{stop_of}
 use Rattle.xd_run.specs.Legal.{IsLegal, books_after}
 use Rattle.xd_run.specs.Proper.{has_workers}
 use Rattle.xd_run_laws.proofs.Logic.{and, split-and}
-use Rattle.xd_replay.specs.Alone.{AreAlone, EndsAlone, LeftAlone, all_kept}
+use Rattle.xd_replay.specs.Alone.{AreAlone, EndsAlone, all_kept}
 use Rattle.xd_replay.specs.Checked.{CanBeLeft, IsChecked}
 use Rattle.xd_replay.specs.Told.{room_after}
-use Rattle.xd_replay.specs.Verdict.{BeginsSome, StopsBeingOne}
+use Rattle.xd_replay.specs.Verdict.{BeginsSome}
 use Rattle.xd_replay.specs.inner.Results.{CanResult, kept_after}
-use Rattle.xd_replay.proofs.Exact.{SameFirst}
-use Rattle.xd_replay.proofs.Unique.{head_or}
 
 -- ---- rounds
 

@@ -1,5 +1,5 @@
 -- Of a journal one thing is found.
-use Rattle.std.proofs.Common.{◌≡◌, ℕ, suc, ◌<◌, ◌≤◌, List, ◌++◌, take, drop, length, ap, sym, subst, ◌∙◌, append_assoc, arith, inl, inr, refl}
+use Rattle.std.proofs.Common.{◌≡◌, ℕ, suc, ◌<◌, ◌≤◌, List, ◌++◌, take, drop, ap, sym, subst, ◌∙◌, append_assoc, arith, inl, inr, refl}
 use lib.Seq.{take-take}
 use Rattle.std.proofs.lemmas.List.{take-append-drop}
 use Rattle.xd_journal.specs.declared.settings.Settings.{Settings}

@@ -1,6 +1,6 @@
 -- A walk over the entries of a journal, from the first starts over each input to the end.
-use Rattle.std.proofs.Common.{◌≡◌, ℕ, zero, suc, ◌+◌, ◌<◌, ◌≤◌, List, [], ◌∷◌, ◌++◌, take, drop, get_or, length, map, refl, ap, ap₂, sym, subst, ◌∙◌, Bool, true, false, not, ◌&&◌, append_assoc, inl, inr, arith}
-use Rattle.std.specs.Prelude.{◌⊎◌, ◌==◌, if◌then◌else◌, nat_le, filter}
+use Rattle.std.proofs.Common.{◌≡◌, ℕ, zero, suc, ◌+◌, ◌<◌, ◌≤◌, List, [], ◌∷◌, ◌++◌, take, drop, get_or, length, map, refl, ap, ap₂, sym, subst, ◌∙◌, Bool, true, false, not, ◌&&◌, append_assoc, inr, arith}
+use Rattle.std.specs.Prelude.{◌==◌, if◌then◌else◌, nat_le, filter}
 use Rattle.std.specs.List.{list_all}
 use Rattle.std.proofs.lemmas.Bool.{false≢true}
 use Rattle.std.proofs.lemmas.Bool.Decides.{nat_tests}
@@ -9,16 +9,15 @@ use Rattle.xd_journal.specs.declared.settings.Settings.{Settings}
 use Rattle.xd_journal.specs.declared.entry.Entry.{Entry}
 use Rattle.xd_journal.specs.declared.entry.Entry.TheVariants.{Ready, Collected, Done, Back, Finished, Refused, Down, NotStarted, Start, Run, RunAll, Steal, Shutdown, Kill, Over}
 use Rattle.xd_journal.specs.declared.entry.RunStop.TheVariants.{OutFault}
-use Rattle.xd_journal.specs.Kept.{most_of_all}
 use Rattle.xd_run.specs.declared.member.Member.{Member}
 use Rattle.xd_run.specs.Books.{Books}
 use Rattle.xd_run.specs.Ending.{ending, kills}
 use Rattle.xd_run.specs.Histories.{after_inputs, after_starts, first_starts, is_over, journal_of, run_end_of, starts_from}
 use Rattle.xd_run.specs.Meaning.{spent_by}
 use Rattle.xd_run.specs.Orderly.{all_orderly, is_orderly}
-use Rattle.xd_run.specs.Outputs.{after_input, outputs}
+use Rattle.xd_run.specs.Outputs.{outputs}
 use Rattle.xd_run.specs.Plan.{Plan}
-use Rattle.xd_run.specs.Proper.{has_workers, may_follow}
+use Rattle.xd_run.specs.Proper.{may_follow}
 use Rattle.xd_run.specs.Sharing.{State}
 use Rattle.xd_run.specs.State.{after_effect, is_input}
 use Rattle.xd_run_laws.proofs.Logic.{and, differ, split-and}
@@ -32,7 +31,6 @@ use Rattle.xd_replay.specs.Alone.{most_retries}
 use Rattle.xd_replay.specs.Checked.{CanBeLeft}
 use Rattle.xd_replay.specs.Told.{is_told_rightly}
 use Rattle.xd_replay.specs.Verdict.{IsFound, StopsBeingOne}
-use Rattle.xd_replay.specs.declared.checking.Verdict.{Verdict}
 use Rattle.xd_replay.specs.declared.checking.Verdict.TheVariants.{Checked, BadAt}
 use Rattle.xd_replay.specs.inner.Compared.{AgreeFor}
 use Rattle.xd_replay.specs.inner.Good.{AreGoodInputs, spent_at}

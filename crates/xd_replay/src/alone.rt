@@ -18,7 +18,7 @@ use xd_edge::OutOfMemory;
 use xd_journal::{Entry, Ids, RunStop, Settings};
 use xd_report::Reporter;
 
-// A run without workers as far as the entries are its own: how many tests it has, and how many bytes of output are kept.
+// A run without workers, as far as the entries are its own: how many tests it has, and how many bytes of output it keeps.
 #[derive(Drop)]
 struct Lone {
     reporter: Reporter,

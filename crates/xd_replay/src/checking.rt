@@ -17,8 +17,8 @@ use xd_steal::Steal;
 pub enum Verdict {
     /// A run can have left it.
     Checked,
-    /// The first entry with which the entries so far begin no journal that a run can have left; or the number of entries,
-    /// where no entry is such, and the journal is not whole.
+    /// The first entry with which the entries so far begin no journal that a run can have left; or the number of
+    /// entries, where no entry is such, and the journal is not whole.
     BadAt(usize),
 }
 
@@ -40,8 +40,8 @@ fn are_within(settings: &Settings) -> bool
     workers && settings.restarts <= MAX_RESTARTS && settings.retries <= MAX_RETRIES
 }
 
-/// Whether a run can have left the journal, or where it stops being such. The run is made again from what its workers said;
-/// that these things came from workers cannot be known.
+/// Whether a run can have left the journal, or where it stops being such. The run is made again from what its workers
+/// said; that these things came from workers cannot be known.
 pub fn check(alloc: Global, journal: &Journal) -> Result<Verdict, OutOfMemory>
     ensures { IfOk result (λ v. IsVerdict v journal.now) }
 {

@@ -14,8 +14,8 @@ ghost use Rattle.xd_replay.specs.Checked.{CanBeLeft, IsChecked};
 ghost use Rattle.xd_replay.specs.Verdict.{IsVerdict};
 ghost use Rattle.xd_replay.specs.declared.checking.Verdict.{Verdict};
 
-/// What a run leaves is checked. With workers: the journal of whatever news, with its end. Without workers: each legal journal
-/// that keeps no more of the output of its tests than the limits allow.
+/// What a run leaves is checked. With workers: the journal of whatever news, with its end. Without workers: each legal
+/// journal that keeps no more of the output of its tests than the limits allow.
 pub fn checked_law()
     ensures workers { (settings : Settings) (taken : List News) (out_failed : Bool) →
         CanBegin settings → nat_le settings.retries most_retries ≡ true →

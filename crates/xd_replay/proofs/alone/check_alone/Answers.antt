@@ -1,4 +1,4 @@
-use Rattle.std.proofs.Common.{◌≡◌, ℕ, get_or, ap, sym, subst, ◌∙◌, arith, List, refl}
+use Rattle.std.proofs.Common.{ℕ, get_or, ap, subst, ◌∙◌, arith, List, refl}
 use Rattle.std.specs.Prelude.{Option}
 use Rattle.xd_journal.specs.declared.entry.Entry.{Entry}
 use Rattle.xd_run.specs.State.{after_entry, no_one}

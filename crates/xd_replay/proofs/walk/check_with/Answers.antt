@@ -1,4 +1,4 @@
-use Rattle.std.proofs.Common.{◌≡◌, ◌++◌, ◌<◌, ◌≤◌, arith, ap, sym, subst, ◌∙◌, List, drop, true, false, not, length}
+use Rattle.std.proofs.Common.{◌≡◌, arith, ap, sym, subst, ◌∙◌, List, true, not, length}
 use Rattle.std.specs.List.{list_all}
 use Rattle.xd_journal.specs.declared.entry.Entry.{Entry}
 use Rattle.xd_run.specs.State.{is_input}

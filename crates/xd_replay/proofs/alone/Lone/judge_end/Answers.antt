@@ -1,9 +1,7 @@
-use Rattle.std.proofs.Common.{◌≡◌, ℕ, ◌+◌, ◌*◌, ◌∷◌, drop, ap, sym, subst, ◌∙◌, arith, false, true, Bool, List}
+use Rattle.std.proofs.Common.{◌+◌, ◌*◌, ◌∷◌, drop, ap, sym, subst, ◌∙◌, arith, true, Bool}
 use Rattle.std.specs.Prelude.{◌==◌, Option}
-use Rattle.std.proofs.lemmas.Bool.{false≢true}
 use Rattle.xd_journal.specs.declared.entry.RunStop.{RunStop}
 use Rattle.xd_journal.specs.declared.entry.Entry.{Entry}
-use Rattle.xd_journal.specs.declared.entry.Entry.TheVariants.{Over}
 use Rattle.xd_journal.specs.Local.{local_entries}
 use Rattle.xd_run.specs.State.{after_entries, no_one}
 use Rattle.xd_replay.specs.Verdict.{IsFound}

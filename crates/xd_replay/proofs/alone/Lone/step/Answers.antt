@@ -1,4 +1,4 @@
-use Rattle.std.proofs.Common.{◌≡◌, ℕ, ◌+◌, ◌*◌, ◌∷◌, [], drop, ap, ap₂, sym, subst, ◌∙◌, arith}
+use Rattle.std.proofs.Common.{◌≡◌, ℕ, ◌+◌, ◌*◌, ap₂, subst, arith}
 use Rattle.std.specs.Prelude.{Option}
 use Rattle.xd_journal.specs.declared.entry.Entry.{Entry}
 use Rattle.xd_run.specs.Sharing.{State}

@@ -1,6 +1,4 @@
-use Rattle.std.proofs.Common.{[], ap, sym, subst, ◌∙◌, List, ℕ, arith, refl}
-use Rattle.xd_journal.specs.declared.entry.Entry.{Entry}
-use Rattle.xd_session_rules.specs.Rules.{Ruled}
+use Rattle.std.proofs.Common.{sym, ◌∙◌}
 use Rattle.xd_replay.proofs.Coming.{collect-came, own-comes, own-joins, own-orderly}
 use Rattle.xd_replay.proofs.replay.Replay.collect.Goals as goal
 

@@ -1,6 +1,6 @@
 use Rattle.std.proofs.Common.{ap, sym, subst, ◌∙◌, List, ℕ, arith, refl, [], ◌∷◌}
 use Rattle.std.proofs.lemmas.Grind.{common_steps}
-use Rattle.xd_journal.specs.declared.entry.Entry.TheVariants.{Back, Done, Down, NotStarted}
+use Rattle.xd_journal.specs.declared.entry.Entry.TheVariants.{Done}
 use Rattle.xd_replay.proofs.Coming.{did-come, done-low, same-comes}
 use Rattle.xd_replay.proofs.replay.Replay.end_test.Goals as goal
 

@@ -1,6 +1,4 @@
-use Rattle.std.proofs.Common.{ap, sym, subst, ◌∙◌, List, ℕ, arith, refl, [], ◌∷◌}
-use Rattle.std.proofs.lemmas.Grind.{common_steps}
-use Rattle.xd_journal.specs.declared.entry.Entry.TheVariants.{Back, Done, Down, NotStarted}
+use Rattle.std.proofs.Common.{arith, refl}
 use Rattle.xd_replay.proofs.Coming.{comes, did-come}
 use Rattle.xd_replay.proofs.replay.Replay.fail_to_start.Goals as goal
 

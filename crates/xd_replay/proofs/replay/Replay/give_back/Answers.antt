@@ -1,6 +1,5 @@
-use Rattle.std.proofs.Common.{ap, sym, subst, ◌∙◌, List, ℕ, arith, refl, [], ◌∷◌}
-use Rattle.std.proofs.lemmas.Grind.{common_steps}
-use Rattle.xd_journal.specs.declared.entry.Entry.TheVariants.{Back, Done, Down, NotStarted}
+use Rattle.std.proofs.Common.{ap, sym, arith}
+use Rattle.xd_journal.specs.declared.entry.Entry.TheVariants.{Back}
 use Rattle.xd_replay.proofs.Coming.{did-come, same-comes}
 use Rattle.xd_replay.proofs.replay.Replay.give_back.Goals as goal
 

@@ -1,6 +1,6 @@
 use Rattle.std.proofs.Common.{ap, sym, subst, ◌∙◌, List, ℕ, arith, refl, [], ◌∷◌}
 use Rattle.std.proofs.lemmas.Grind.{common_steps}
-use Rattle.xd_journal.specs.declared.entry.Entry.TheVariants.{Back, Done, Down, NotStarted}
+use Rattle.xd_journal.specs.declared.entry.Entry.TheVariants.{Down}
 use Rattle.xd_replay.proofs.Coming.{did-come, down-low, same-comes}
 use Rattle.xd_replay.proofs.replay.Replay.go_down.Goals as goal
 

@@ -2,7 +2,7 @@ use Rattle.std.proofs.Common.{ap, sym, ◌∙◌}
 use Rattle.xd_run.specs.Books.{Books}
 use Rattle.xd_run.specs.Collections.{listed}
 use Rattle.xd_replay.specs.inner.Heard.{ids_told}
-use Rattle.xd_replay.proofs.Coming.{known-collected, known-none}
+use Rattle.xd_replay.proofs.Coming.{known-collected}
 use Rattle.xd_replay.proofs.replay.Replay.may_collect.Goals as goal
 
 pub returns : goal.returns

@@ -1,6 +1,5 @@
-use Rattle.std.proofs.Common.{ap, sym, subst, ◌∙◌, List, ℕ, arith, refl, [], ◌∷◌}
-use Rattle.std.proofs.lemmas.Grind.{common_steps}
-use Rattle.xd_journal.specs.declared.entry.Entry.TheVariants.{Back, Done, Down, NotStarted}
+use Rattle.std.proofs.Common.{subst, List, ℕ}
+use Rattle.xd_journal.specs.declared.entry.Entry.TheVariants.{Back}
 use Rattle.std.proofs.Common.{◌≡◌, true, ◌&&◌}
 use Rattle.xd_run.specs.Proper.{may_follow}
 use Rattle.xd_replay.proofs.Coming.{known-back}

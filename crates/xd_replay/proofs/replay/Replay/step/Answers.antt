@@ -1,4 +1,4 @@
-use Rattle.std.proofs.Common.{◌≡◌, ◌+◌, ◌≤◌, List, drop, length, true, not, arith, ap, sym, subst, ◌∙◌}
+use Rattle.std.proofs.Common.{◌≡◌, ◌+◌, ◌≤◌, List, drop, length, true, not, arith, sym, subst}
 use Rattle.std.specs.List.{list_all}
 use Rattle.xd_journal.specs.declared.entry.Entry.{Entry}
 use Rattle.xd_run.specs.State.{is_input}
