@@ -1,4 +1,3 @@
 pub mod Begins
-pub mod Completes
 pub mod Refused
 pub mod Workers
