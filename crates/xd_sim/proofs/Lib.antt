@@ -1,0 +1,3 @@
+mod Ran
+mod Suites
+mod Written

@@ -1,0 +1,82 @@
+-- What a worker of a run came to, by what is kept of its link.
+use Rattle.std.proofs.Common.{◌≡◌, ℕ, ◌≤◌, List, [], ◌∷◌, ◌++◌, length, map, take, Bool, true, false, Option, Some, None, refl, sym, ap, subst, ◌∙◌, arith, append_assoc, append-nil}
+use Rattle.xd_edge.specs.declared.mode.ModeKind.{ModeKind}
+use Rattle.xd_edge.specs.Sink.{Sunk}
+use Rattle.xd_frame.specs.Framer.{FramerView, IsFirstOf, StandsForBytes}
+use Rattle.xd_frame.specs.Message.{MessageView, frames}
+use Rattle.xd_gateway.specs.News.{Heard, IsNewsOf, all_messages, all_news}
+use Rattle.xd_gateway.specs.declared.gateway.Gateway.{Gateway}
+use Rattle.xd_group_peer.specs.Heard.{HeardSo, cause_by, of_link}
+use Rattle.xd_journal.specs.declared.entry.Cause.{Cause}
+use Rattle.xd_journal.specs.declared.entry.Cause.TheVariants as cause
+use Rattle.xd_journal.specs.declared.news.What.{What}
+use Rattle.xd_journal.specs.declared.news.What.TheVariants.{Gone}
+use Rattle.xd_reader.specs.declared.news.LinkNews.{LinkNews}
+use Rattle.xd_reader.specs.declared.news.LinkNews.TheVariants.{Message, End}
+use Rattle.xd_reader.specs.declared.news.LinkStop.{LinkStop}
+use Rattle.xd_reader.specs.declared.news.LinkStop.TheVariants as stop
+use Rattle.xd_sim.specs.History.{TellsPart}
+use Rattle.xd_sim.specs.inner.Peer.{end_item}
+use Rattle.xd_sim.proofs.Written.{first_of_first, part_messages}
+
+-- messages come apart in one way
+same_messages : (a b : List MessageView) → map Message a ≡ map Message b → a ≡ b
+same_messages [] [] e = refl
+same_messages [] (m ∷ b) e = absurd (cc e)
+same_messages (m ∷ a) [] e = absurd (cc e)
+same_messages (m ∷ a) (k ∷ b) e =
+    let tail : map Message a ≡ map Message b = cc e in
+    let head : m ≡ k = cc e in
+    ap (λ (x : MessageView). x ∷ a) head ∙ ap (λ (l : List MessageView). k ∷ l) (same_messages a b tail)
+
+-- so do messages and then an end
+apart : (a b : List MessageView) (why done : LinkStop) (rest : List LinkNews) → map Message a ++ End done ∷ [] ≡ map Message b ++ End why ∷ rest → (a ≡ b) × (done ≡ why)
+apart [] [] why done rest e = (refl, cc e)
+apart [] (m ∷ b) why done rest e = absurd (cc e)
+apart (m ∷ a) [] why done rest e = absurd (cc e)
+apart (m ∷ a) (k ∷ b) why done rest e =
+    let tail : map Message a ++ End done ∷ [] ≡ map Message b ++ End why ∷ rest = cc e in
+    let head : m ≡ k = cc e in
+    let more = apart a b why done rest tail in
+    (ap (λ (x : MessageView). x ∷ a) head ∙ ap (λ (l : List MessageView). k ∷ l) more.0, more.1)
+
+-- the items of a link of a run are all of the link
+all_of_link : (ms : List MessageView) (ended : Bool) → of_link (map Message ms ++ end_item ended) ≡ map Message ms ++ end_item ended
+all_of_link [] true = refl
+all_of_link [] false = refl
+all_of_link (m ∷ ms) ended = ap (λ (l : List LinkNews). Message m ∷ l) (all_of_link ms ended)
+
+-- a link that no write to failed is gone by its stop
+ended_cause : (why : LinkStop) (failed : Bool) → stop.Ended ≡ why → (failed ≡ true → false ≡ true) → cause_by why failed ≡ cause.Ended
+ended_cause why true is not_lost = absurd (let no = not_lost refl in cc no)
+ended_cause why false is not_lost = ap (λ w. cause_by w false) (sym is)
+
+module _ {K : Type 0} where
+  -- what was said of a link are the news of a first part of what its worker said, and its end
+  pub tells_part : (g : Gateway K) (ended : Bool) (taken : List LinkNews) (said : List What) (heard queue all : List MessageView)
+      → HeardSo g ended false taken said → taken ≡ map Message heard ++ end_item ended → IsFirstOf (heard ++ queue) all → TellsPart all said
+  tells_part g false taken said heard queue all h taken_are first =
+      let t = h.tells in
+      let items : map Message heard ≡ map Message (all_messages h.heard) =
+      sym (append-nil (map Message heard)) ∙ (sym (all_of_link heard false) ∙ (ap of_link (sym taken_are) ∙ t.taken_are)) in
+      record {
+        first = heard;
+        heard = said;
+        told = false;
+        begins = first_of_first heard (heard ++ queue) all (queue, refl) first;
+        are = record { heard = h.heard; are = h.stands.are; messages_are = sym (same_messages heard (all_messages h.heard) items); news_are = sym t.said_are };
+        news_are = sym (append-nil said);
+      }
+  tells_part g true taken said heard queue all h taken_are first =
+      let t = h.tells in
+      let items : map Message heard ++ End stop.Ended ∷ [] ≡ map Message (all_messages h.heard) ++ End t.why ∷ t.later =
+      sym (all_of_link heard true) ∙ (ap of_link (sym taken_are) ∙ t.taken_are) in
+      let same = apart heard (all_messages h.heard) t.why stop.Ended t.later items in
+      record {
+        first = heard;
+        heard = all_news h.heard;
+        told = true;
+        begins = first_of_first heard (heard ++ queue) all (queue, refl) first;
+        are = record { heard = h.heard; are = h.stands.are; messages_are = sym same.0; news_are = refl };
+        news_are = t.said_are ∙ ap (λ (c : Cause). all_news h.heard ++ Gone c ∷ []) (ended_cause t.why t.failed same.1 t.still);
+      }
