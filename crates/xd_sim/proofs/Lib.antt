@@ -1,3 +1,4 @@
 mod Ran
+mod Runs
 mod Suites
 mod Written

@@ -3,10 +3,14 @@ use Rattle.std.proofs.Common.{◌≡◌, ℕ, ◌≤◌, List, [], ◌∷◌, �
 use Rattle.xd_edge.specs.declared.mode.ModeKind.{ModeKind}
 use Rattle.xd_edge.specs.Sink.{Sunk}
 use Rattle.xd_frame.specs.Framer.{FramerView, IsFirstOf, StandsForBytes}
+use Rattle.std.specs.Str.{encode_utf8_all}
 use Rattle.xd_frame.specs.Message.{MessageView, frames}
+use Rattle.xd_frame.specs.Stream.{messages}
 use Rattle.xd_gateway.specs.News.{Heard, IsNewsOf, all_messages, all_news}
 use Rattle.xd_gateway.specs.declared.gateway.Gateway.{Gateway}
 use Rattle.xd_group_peer.specs.Heard.{HeardSo, cause_by, of_link}
+use Rattle.xd_group_peer.specs.Pages.{Page}
+use Rattle.xd_group_peer.specs.ToLink.{to_link}
 use Rattle.xd_journal.specs.declared.entry.Cause.{Cause}
 use Rattle.xd_journal.specs.declared.entry.Cause.TheVariants as cause
 use Rattle.xd_journal.specs.declared.news.What.{What}
@@ -15,9 +19,14 @@ use Rattle.xd_reader.specs.declared.news.LinkNews.{LinkNews}
 use Rattle.xd_reader.specs.declared.news.LinkNews.TheVariants.{Message, End}
 use Rattle.xd_reader.specs.declared.news.LinkStop.{LinkStop}
 use Rattle.xd_reader.specs.declared.news.LinkStop.TheVariants as stop
-use Rattle.xd_sim.specs.History.{TellsPart}
-use Rattle.xd_sim.specs.inner.Peer.{end_item}
-use Rattle.xd_sim.proofs.Written.{first_of_first, part_messages}
+use Rattle.xd_worker.specs.History.{HeardInput, all_said}
+use Rattle.xd_worker.specs.Inputs.{messages_in}
+use Rattle.xd_worker.specs.declared.input.WorkerInput.{WorkerInput}
+use Rattle.xd_sim.specs.History.{AreOfRun, TellsPart, WorkerRan}
+use Rattle.xd_sim.specs.Shape.{sim_mode}
+use Rattle.xd_sim.specs.SuiteText.{suite_path}
+use Rattle.xd_sim.specs.inner.Peer.{IsPeerOf, end_item}
+use Rattle.xd_sim.proofs.Written.{first_of_first, link_messages, part_messages}
 
 -- messages come apart in one way
 same_messages : (a b : List MessageView) → map Message a ≡ map Message b → a ≡ b
@@ -79,4 +88,34 @@ module _ {K : Type 0} where
         begins = first_of_first heard (heard ++ queue) all (queue, refl) first;
         are = record { heard = h.heard; are = h.stands.are; messages_are = sym same.0; news_are = refl };
         news_are = t.said_are ∙ ap (λ (c : Cause). all_news h.heard ++ Gone c ∷ []) (ended_cause t.why t.failed same.1 t.still);
+      }
+
+short_path : length (encode_utf8_all suite_path) ≤ 65536
+unfolding lib.Utf8.encode
+short_path = omega arith
+
+-- what came to a worker is a first part of what was written to it
+came_as_written : (fed : ℕ) (bytes : List ℕ) (ms : List MessageView) (s : FramerView) (took came : List MessageView)
+    → bytes ≡ frames ms → IsFirstOf (messages (take fed (frames ms))) ms → StandsForBytes s (take fed bytes) took → IsFirstOf came took → IsFirstOf came ms
+came_as_written fed bytes ms s took came is part stands first =
+    let all : IsFirstOf (took ++ s.waiting) (messages (take fed (frames ms))) = subst (λ b. IsFirstOf (took ++ s.waiting) (messages (take fed b))) is stands.first in
+    first_of_first came took ms first
+    (first_of_first took (took ++ s.waiting) ms (s.waiting, refl) (first_of_first (took ++ s.waiting) (messages (take fed (frames ms))) ms all part))
+
+module _ {K : Type 0} where
+  -- a worker of this run, by the controller's end of its link, what came to it, and what is on the way
+  pub worker_ran : (n : ℕ) (g : Gateway K) (p : Page) (ended : Bool) (bytes : List ℕ) (fed : ℕ) (s : FramerView) (inputs : List WorkerInput) (history : List HeardInput) (took heard queue : List MessageView)
+      → IsPeerOf n p false ended heard → HeardSo g ended false p.taken (p.said ++ p.late) → bytes ≡ frames (to_link p.suite p.mode p.told p.said)
+      → StandsForBytes s (take fed bytes) took → IsFirstOf (messages_in inputs) took → AreOfRun n inputs history → IsFirstOf (heard ++ queue) (all_said history)
+      → WorkerRan n p.told p.said
+  worker_ran n g p ended bytes fed s inputs history took heard queue own hears wrote stands first are said =
+      let ms = to_link suite_path (sim_mode n) p.told p.said in
+      let is : bytes ≡ frames ms = wrote ∙ (ap (λ path. frames (to_link path p.mode p.told p.said)) own.suite ∙ ap (λ mode. frames (to_link suite_path mode p.told p.said)) own.mode) in
+      let all : p.said ++ p.late ≡ p.said = ap (λ l. p.said ++ l) own.on_time ∙ append-nil p.said in
+      record {
+        inputs = inputs;
+        history = history;
+        are = are;
+        written = came_as_written fed bytes ms s took (messages_in inputs) is (part_messages fed ms (link_messages suite_path (sim_mode n) p.told p.said short_path)) stands first;
+        tells = tells_part g ended p.taken p.said heard queue (all_said history) (subst (λ l. HeardSo g ended false p.taken l) all hears) own.taken said;
       }

@@ -1,11 +1,12 @@
 -- What came to a worker of a run that a number names, and what it said.
-use Rattle.std.specs.Prelude.{◌≡◌, ⊥, ℕ, Bool, true, List, [], ◌∷◌, ◌++◌, Option, Some, option_to_list, OnSome, IfSome}
+use Rattle.std.specs.Prelude.{◌≡◌, ℕ, Bool, true, false, List, [], ◌∷◌, ◌++◌, Some}
 use Rattle.xd_frame.specs.Framer.{IsFirstOf}
 use Rattle.xd_frame.specs.Message.{MessageView}
 use Rattle.xd_gateway.specs.News.{IsNewsOf}
 use Rattle.xd_group_peer.specs.ToLink.{to_link}
 use Rattle.xd_journal.specs.declared.entry.Cause.TheVariants as cause
 use Rattle.xd_journal.specs.declared.entry.Entry.{Entry}
+use Rattle.xd_journal.specs.declared.entry.Outcome.{Outcome}
 use Rattle.xd_journal.specs.declared.news.What.{What}
 use Rattle.xd_journal.specs.declared.news.What.TheVariants.{Gone}
 use Rattle.xd_worker.specs.History.{HeardInput, all_said, worker_after}
@@ -27,7 +28,7 @@ pub record PrintsPiece (t : ℕ) (w : Worker) (b : List ℕ) : Type 0 where
   pub piece : b ≡ sim_piece t
 
 -- The test runs, and ends as it has to.
-pub record EndsTest (t : ℕ) (before : List WorkerInput) (w : Worker) (outcome : _) (ms : ℕ) : Type 0 where
+pub record EndsTest (t : ℕ) (before : List WorkerInput) (w : Worker) (outcome : Outcome) (ms : ℕ) : Type 0 where
   pub runs : running_in w.duties.service ≡ Some t
   pub outcome_is : outcome ≡ sim_outcome t
   pub ms_is : ms ≡ sim_ms t

@@ -7,6 +7,7 @@ ghost use Rattle.xd_journal.specs.Said.{is_breach};
 ghost use Rattle.xd_journal.specs.declared.entry.Entry.TheVariants.{Start, Kill};
 ghost use Rattle.xd_trace.specs.Noted.{noted};
 ghost use Rattle.xd_sim.specs.Shape.{sim_workers};
+ghost use Rattle.xd_sim.specs.declared.sim_link.SimLink.{SimLink};
 ghost use Rattle.xd_sim.specs.inner.Hub.{HubKeeps, workers_in};
 
 use crate::draws::Draws;
@@ -124,6 +125,7 @@ impl SimHub {
 
     // One turn. Where no link is live nothing comes of it.
     fn turn(&mut self, alloc: Global) -> Result<Option<News>, OutOfMemory>
+        requires whole { self.old.is_whole ≡ true }
         ensures started { IfOk result (λ r.
             IfSome r (λ n. is_listed n.worker (workers_in self.old.links.items) ≡ true)) }
         ensures no_breach { IfOk result (λ r. IfSome r (λ n. is_breach n.what ≡ false)) }
@@ -133,6 +135,7 @@ impl SimHub {
         ensures workers { OnOk result
             (workers_in self.new.links.items ≡ workers_in self.old.links.items) }
         ensures number { self.new.number ≡ self.old.number }
+        ensures whole { OnOk result (self.new.is_whole ≡ true) }
     {
         let whose = self.draws.draw();
         let which = self.draws.draw();
@@ -156,7 +159,8 @@ impl SimHub {
         at: usize,
         drawn: u64,
     ) -> Result<Option<News>, OutOfMemory>
-        requires { at < vec_len self.old.links }
+        requires whole { self.old.is_whole ≡ true }
+        requires within { at < vec_len self.old.links }
         ensures started { IfOk result (λ r.
             IfSome r (λ n. is_listed n.worker (workers_in self.old.links.items) ≡ true)) }
         ensures no_breach { IfOk result (λ r. IfSome r (λ n. is_breach n.what ≡ false)) }
@@ -166,6 +170,7 @@ impl SimHub {
         ensures workers { OnOk result
             (workers_in self.new.links.items ≡ workers_in self.old.links.items) }
         ensures number { self.new.number ≡ self.old.number }
+        ensures whole { OnOk result (self.new.is_whole ≡ true) }
     {
         if self.is_dying(at, drawn) {
             self.links[at].die(drawn / 512);
@@ -184,6 +189,7 @@ impl SimHub {
 
     // Where no link has anything to do, the end of the lowest live one is told.
     fn tell_lowest_end(&mut self) -> Result<Option<News>, OutOfMemory>
+        requires whole { self.old.is_whole ≡ true }
         ensures started { IfOk result (λ r.
             IfSome r (λ n. is_listed n.worker (workers_in self.old.links.items) ≡ true)) }
         ensures no_breach { IfOk result (λ r. IfSome r (λ n. is_breach n.what ≡ false)) }
@@ -193,6 +199,7 @@ impl SimHub {
         ensures workers { OnOk result
             (workers_in self.new.links.items ≡ workers_in self.old.links.items) }
         ensures number { self.new.number ≡ self.old.number }
+        ensures whole { OnOk result (self.new.is_whole ≡ true) }
     {
         let Some(lowest) = self.live_at(0) else {
             return Ok(None);

@@ -60,7 +60,11 @@ fn then_deed(is_possible: bool, deed: Deed) -> Option<Deed> {
 }
 
 impl SimLink {
-    ghost use Rattle.xd_sim.specs.inner.Link.{IsLinkOpen, LinkStands, link_said, link_told};
+    ghost use Rattle.xd_sim.specs.inner.Link.{CameTo, IsLinkOpen, LinkStands, WorkerStands, link_said, link_told};
+    ghost use Rattle.xd_sim.specs.History.{IsOfRun};
+    ghost use Rattle.xd_frame.specs.Message.{MessageView};
+    ghost use Rattle.xd_worker.specs.History.{HeardInput, worker_after};
+    ghost use Rattle.xd_worker.specs.declared.input.WorkerInput.{WorkerInput};
 
     /// A link whose worker was called, and has not taken the call yet.
     pub fn new(
@@ -317,6 +321,13 @@ impl SimLink {
 
     // Something comes to the worker. What it says is on the way then.
     fn give(&mut self, input: WorkerInput) -> Result<(), OutOfMemory>
+        ensures came { (n : ℕ) (inputs : List WorkerInput) (h : List HeardInput)
+            (heard : List MessageView) →
+            WorkerStands n inputs h heard self.old.core self.old.to_controller.items false →
+            IsOfRun n inputs (worker_after h) input → IsDue (worker_after h) input →
+            OnOk result (CameTo n input inputs h heard self.new.core self.new.to_controller.items
+            self.new.has_ended) }
+        ensures fed { (self.new.to_worker ≡ self.old.to_worker) × (self.new.fed ≡ self.old.fed) }
         ensures same { (self.new.worker ≡ self.old.worker) × (self.new.peer ≡ self.old.peer) }
     {
         match self.core.step(input) {

@@ -1,6 +1,6 @@
 -- What is kept of all links of a run.
-use Rattle.std.specs.Prelude.{◌≡◌, ℕ, true, false, List, [], Some, map, slice_get}
-use Rattle.xd_drive.specs.Performing.{was_started}
+use Rattle.std.specs.Prelude.{◌≡◌, ℕ, false, List, [], Some, map, slice_get}
+use Rattle.xd_drive.specs.Listed.{is_listed}
 use Rattle.xd_journal.specs.declared.entry.Entry.{Entry}
 use Rattle.xd_journal.specs.declared.news.News.{News}
 use Rattle.xd_sim.specs.Simulated.{news_of_worker, orders_to_worker}
@@ -24,6 +24,5 @@ pub record HubKeeps (n : ℕ) (path suite : List ℕ) (links : List SimLink) (ca
   pub suite_is : suite ≡ suite_bytes n
   pub links_are : (k : ℕ) (l : SimLink) → slice_get links k ≡ Some l → IsLinkKept n calls given l
   pub apart : (j k w : ℕ) → slice_get (workers_in links) j ≡ Some w → slice_get (workers_in links) k ≡ Some w → j ≡ k
-  pub placed : (w : ℕ) → was_started w calls ≡ true → (k : ℕ) × (slice_get (workers_in links) k ≡ Some w)
-  pub untold : (w : ℕ) → was_started w calls ≡ false → orders_to_worker w calls ≡ []
-  pub unheard : (w : ℕ) → was_started w calls ≡ false → news_of_worker w given ≡ []
+  pub untold : (w : ℕ) → is_listed w (workers_in links) ≡ false → orders_to_worker w calls ≡ []
+  pub unheard : (w : ℕ) → is_listed w (workers_in links) ≡ false → news_of_worker w given ≡ []
