@@ -1,2 +1,6 @@
 mod Growing
+mod Heads
+mod Fronts
+mod Passing
+mod Written
 mod Rows

@@ -10,6 +10,6 @@ mod worker;
 
 pub use input::{WorkerActions, WorkerFault, WorkerInput};
 pub use laws::{a_test_is_of_the_suite, each_log_opens};
-pub use talk::Sent;
+pub use talk::{Sent, begin_function, close_log, end_function, send, send_piece, tell_status};
 pub use tests_call::{Fed, TestsCall};
 pub use worker::{Asked, WorkerCore};

@@ -1,0 +1,4 @@
+pub mod Call
+pub mod Relay
+pub mod History
+pub mod Stands
