@@ -1,11 +1,9 @@
 -- How the parts of the code stand for the relay of the definitions.
 use Rattle.std.specs.Prelude.{◌≡◌, ℕ, Bool, true, false, List, [], ◌∷◌, Option, Some, None, Result, Ok, Err}
 use Rattle.xd_frame.specs.Message.{MessageView}
-use Rattle.xd_value.specs.declared.value.Value.{Value}
 use Rattle.xd_factory.specs.declared.faults.SideFault.{SideFault}
 use Rattle.xd_factory.specs.declared.faults.SideFault.TheVariants as side
-use Rattle.xd_factory.specs.declared.taken.Taken.{Taken}
-use Rattle.xd_factory.specs.SideTable.{ChannelTable, Counts, channel_table}
+use Rattle.xd_factory.specs.SideTable.{ChannelTable, Counts, RefusedBy, channel_table}
 use Rattle.xd_relay_core.specs.declared.input.RelayActions.{RelayActions}
 use Rattle.xd_relay_core.specs.declared.input.RelayFault.{RelayFault}
 use Rattle.xd_relay_core.specs.declared.input.RelayFault.TheVariants.{Link, OutOfMemory}
@@ -33,6 +31,13 @@ pub record IsRelayTurn (c : RelayCore) (a : RelayActions) (t : RelayTurn) : Type
   pub to_child_is : a.to_child ≡ t.to_child
   pub close_child_is : a.close_child ≡ t.close_child
   pub kill_is : a.kill ≡ t.kill
+
+-- An input was answered by the turn that it makes of this relay.
+pub record Does (c : RelayCore) (a : RelayActions) (r : Relay) (i : RelayInput) : Type 0 where
+  pub heard : HeardInput
+  pub is : Is i heard.came
+  pub counts : Counts (table_after heard.came r.table).slot heard.channels
+  pub stands : IsRelayTurn c a (turn_by r heard)
 
 -- The parts are those of the relay after these inputs, each of which came in its time.
 pub record StandsForInputs (c : RelayCore) (h : List HeardInput) : Type 0 where
@@ -86,6 +91,21 @@ abbrev pub IsThisFault : {X : Type 0} → SideFault → Result X RelayFault → 
 IsThisFault fault (Ok a) = ⊥
 IsThisFault fault (Err (Link other)) = other ≡ fault
 IsThisFault fault (Err OutOfMemory) = Unit {0}
+
+-- the side refuses a message for this reason, or memory ran out, which needs none
+abbrev pub IsFaultAt : ChannelTable → MessageView → RelayFault → Type 0
+IsFaultAt t m (Link fault) = RefusedBy t.fault t m fault
+IsFaultAt t m OutOfMemory = Unit {0}
+
+-- what a fault of the side is for the relay
+abbrev pub relay_fault : SideFault → RelayFault
+relay_fault side.OutOfMemory = OutOfMemory
+relay_fault side.Finished = Link side.Finished
+relay_fault side.BadNumber = Link side.BadNumber
+relay_fault side.Unsupported = Link side.Unsupported
+relay_fault (side.BadPayload what) = Link (side.BadPayload what)
+relay_fault side.NotText = Link side.NotText
+relay_fault side.TooManyOpen = Link side.TooManyOpen
 
 -- why each input is refused, if there is a reason
 abbrev pub fault_in : RelayCore → Option RelayFault

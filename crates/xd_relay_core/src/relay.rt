@@ -42,9 +42,11 @@ pub struct RelayCore {
 impl RelayCore {
     ghost use Rattle.xd_factory.specs.declared.faults.SideFault.{SideFault};
     ghost use Rattle.xd_relay_core.specs.declared.input.RelayFault.{RelayFault};
-    ghost use Rattle.xd_relay_core.specs.Relay.{is_relay_over};
+    ghost use Rattle.xd_factory.specs.SideTable.{Counts};
+    ghost use Rattle.xd_factory.specs.View.{slot_of_number};
+    ghost use Rattle.xd_relay_core.specs.Relay.{Relay, RelayTurn, has, is_relay_over, killed};
     ghost use Rattle.xd_relay_core.specs.History.{HeardInput, IsInputToRefuse, relay_after};
-    ghost use Rattle.xd_relay_core.specs.Stands.{Answers, FaultHasReason, IsThisFault, StandsForInputs, child_open, fault_in, is_childs, is_started, owes_start};
+    ghost use Rattle.xd_relay_core.specs.Stands.{Answers, FaultHasReason, IsRelay, IsRelayTurn, IsThisFault, StandsForInputs, child_open, fault_in, is_childs, is_started, owes_start};
 
     /// A relay to which nothing has come yet.
     pub fn new(alloc: Global) -> RelayCore
@@ -93,7 +95,7 @@ impl RelayCore {
     {
         match &self.call {
             None => false,
-            Some(call) => call.child == Child::Owed,
+            Some(call) => matches!(call.child, Child::Owed),
         }
     }
 
@@ -103,19 +105,30 @@ impl RelayCore {
     {
         match &self.call {
             None => false,
-            Some(call) => call.child == Child::Runs,
+            Some(call) => matches!(call.child, Child::Runs),
         }
     }
 
     // The child of a call was started, now or before.
-    fn has_begun(&self) -> bool {
+    fn has_begun(&self) -> bool
+        ensures { result ≡ has (λ c. c.began) self.now.call }
+    {
         match &self.call {
             None => false,
             Some(call) => call.began,
         }
     }
 
-    fn answer(&mut self, input: RelayInput) -> Result<RelayActions, RelayFault> {
+    fn answer(&mut self, input: RelayInput) -> Result<RelayActions, RelayFault>
+        requires owed { owes_start self.old ≡ is_started input }
+        requires running { is_childs input ≡ true → child_open self.old ≡ true }
+        ensures answers { (h : List HeardInput) → StandsForInputs self.old h →
+            IfOk result (Answers self.new h input) }
+        ensures refused { (h : List HeardInput) → StandsForInputs self.old h →
+            IfErr result (FaultHasReason (relay_after h) input) }
+        ensures refuses { (h : List HeardInput) (fault : SideFault) → StandsForInputs self.old h →
+            IsInputToRefuse (relay_after h) input fault → IsThisFault fault result }
+    {
         let mut acts = RelayActions {
             say: Messages {
                 items: Vec::new(self.alloc),
@@ -140,17 +153,24 @@ impl RelayCore {
         Ok(acts)
     }
 
-    fn is_over(&self) -> bool {
+    fn is_over(&self) -> bool
+        ensures { (r : Relay) → IsRelay self.now r → result ≡ is_relay_over r }
+    {
         (self.stopped || self.has_begun()) && !self.owes_start() && !self.child_open()
     }
 
     // The child is killed, where it runs.
-    fn kill(&self, acts: &mut RelayActions) {
+    fn kill(&self, acts: &mut RelayActions)
+        ensures { (t : RelayTurn) → IsRelayTurn self.now acts.old t →
+            IsRelayTurn self.now acts.new (killed t) }
+    {
         acts.kill = self.child_open();
     }
 
     // How many channels are in the table.
-    fn channels(&self) -> u32 {
+    fn channels(&self) -> u32
+        ensures { Counts (slot_of_number self.now.side) result }
+    {
         self.side.status()
     }
 }

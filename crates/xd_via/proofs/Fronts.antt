@@ -58,19 +58,18 @@ most Stop = 1
 most Closed = 0
 most Broken = 0
 
-nothing : (front : List ℕ) → length front ≤ 0 → front ≡ []
-nothing [] l = refl
-nothing (b ∷ bs) l = absurd (omega arith)
-
-pub goes : (st : Stage) (front : List ℕ) → length front ≤ most st → (IsBegun st front → Judges st front (judged st front) (kept st (judged st front) front))
-goes Opening front l k = opening_goes front (bytes_eq front (take (length front) opening)) (nat_lt (length front) 16) refl refl l
-goes Head front l k = head_goes front (nat_lt (length front) 9) (bytes_eq (take 5 front) (4 ∷ 0 ∷ 0 ∷ 0 ∷ 2 ∷ [])) (nat_lt (length front) 14) (bytes_eq front closing) refl refl refl l
-goes (Piece left) front l k = rw (nothing front l) (record { same = λ later. refl; begun = (refl, k.1); near = omega arith })
-goes Stop [] l k = record { same = λ later. refl; begun = refl; near = omega arith }
-goes Stop (b ∷ []) l k = stop_goes b (b == 81) refl
-goes Stop (b ∷ c ∷ bs) l k = absurd (omega arith)
-goes Closed front l k = rw (nothing front l) (record { same = λ later. refl; begun = refl; near = omega arith })
-goes Broken front l k = rw (nothing front l) (record { same = λ later. refl; begun = refl; near = omega arith })
+goes : (st : Stage) (old front : List ℕ) → IsBegun st old → length front ≤ most st → Judges st front (judged st front) (kept st (judged st front) front)
+goes Opening old front k l = opening_goes front (bytes_eq front (take (length front) opening)) (nat_lt (length front) 16) refl refl l
+goes Head old front k l = head_goes front (nat_lt (length front) 9) (bytes_eq (take 5 front) (4 ∷ 0 ∷ 0 ∷ 0 ∷ 2 ∷ [])) (nat_lt (length front) 14) (bytes_eq front closing) refl refl refl l
+goes (Piece left) old [] k l = record { same = λ later. refl; begun = (refl, k.1); near = omega arith }
+goes (Piece left) old (b ∷ bs) k l = absurd (omega arith)
+goes Stop old [] k l = record { same = λ later. refl; begun = refl; near = omega arith }
+goes Stop old (b ∷ []) k l = stop_goes b (b == 81) refl
+goes Stop old (b ∷ c ∷ bs) k l = absurd (omega arith)
+goes Closed old [] k l = record { same = λ later. refl; begun = refl; near = omega arith }
+goes Closed old (b ∷ bs) k l = absurd (omega arith)
+goes Broken old [] k l = record { same = λ later. refl; begun = refl; near = omega arith }
+goes Broken old (b ∷ bs) k l = absurd (omega arith)
 
 -- a part that is not whole brings nothing by itself
 pub begun_none : (st : Stage) (front : List ℕ) → IsBegun st front → to_come st front [] ≡ []
@@ -90,3 +89,69 @@ slide (Piece left) front bs later = ap (pieces_from (Some left) (pieces_of 2)) (
 slide Stop front bs later = ap (behind_stop (pieces_of 2)) (sym (append_assoc front bs later))
 slide Closed front bs later = refl
 slide Broken front bs later = refl
+
+-- what is missing has room
+most_missing : (size n : ℕ) (b : Bool) → nat_lt size 9 ≡ b → n ≤ cond b 9 14 - size → size < 14 → size + n ≤ 14
+most_missing size n true e l k = let s : size < 9 = less _ _ e in omega arith
+most_missing size n false e l k = omega arith
+
+pub room : (st : Stage) (front : List ℕ) (n : ℕ) → IsBegun st front → n ≤ missing_of st (length front) → length front + n ≤ most st
+room Opening front n k l = omega (arith, k, l)
+room Head front n k l = most_missing (length front) n (nat_lt (length front) 9) refl l k
+room (Piece left) front n k l = let e = ap length (k.0) in omega (arith, e, l)
+room Stop front n k l = let e = ap length k in omega (arith, e, l)
+room Closed front n k l = let e = ap length k in omega (arith, e, l)
+room Broken front n k l = let e = ap length k in omega (arith, e, l)
+
+pub most_of : (st : Stage) → most st ≤ 16
+most_of Opening = omega arith
+most_of Head = omega arith
+most_of (Piece left) = omega arith
+most_of Stop = omega arith
+most_of Closed = omega arith
+most_of Broken = omega arith
+
+-- as many bytes as stand before the next byte of the worker fewer
+nearer : (st : Stage) (front : List ℕ) (n : ℕ) → IsBegun st front → 0 < n → n ≤ missing_of st (length front) → distance_of st (length front + n) < distance_of st (length front)
+nearer Opening front n k p l = omega (arith, k, p, l)
+nearer Head front n k p l = omega (arith, k, p)
+nearer (Piece left) front n k p l = absurd (omega (arith, p, l))
+nearer Stop front n k p l = let e = ap length k in omega (arith, e, p, l)
+nearer Closed front n k p l = absurd (omega (arith, p, l))
+nearer Broken front n k p l = absurd (omega (arith, p, l))
+
+-- bytes of a part came, no more than were missing
+pub record Taken (st : Stage) (front piece : List ℕ) (st' : Stage) (front' : List ℕ) : Type 0 where
+  pub same : (later : List ℕ) → to_come st front (piece ++ later) ≡ to_come st' front' later
+  pub begun : IsBegun st' front'
+  pub none : to_come st' front' [] ≡ []
+  pub near : 0 < length piece → distance_of st' (length front') < distance_of st (length front)
+
+pub taken : (st : Stage) (front piece : List ℕ) → IsBegun st front → length piece ≤ missing_of st (length front) → Taken st front piece (judged st (front ++ piece)) (kept st (judged st (front ++ piece)) (front ++ piece))
+taken st front piece k l =
+    let size : length (front ++ piece) ≡ length front + length piece = length-append front piece in
+    let g = goes st front (front ++ piece) k (omega (arith, size, room st front (length piece) k l)) in
+    record {
+      same = λ later. slide st front piece later ∙ g.same later;
+      begun = g.begun;
+      none = begun_none (judged st (front ++ piece)) (kept st (judged st (front ++ piece)) (front ++ piece)) g.begun;
+      near = λ p. (let d : distance_of st (length (front ++ piece)) ≡ distance_of st (length front + length piece) = ap (distance_of st) size in
+          omega (arith, g.near, d, nearer st front (length piece) k p l));
+    }
+
+-- bytes of the worker came, no more than were to come
+pub record Passed (left count : ℕ) (st' : Stage) : Type 0 where
+  pub same : (bs later : List ℕ) → length bs ≡ count → to_come (Piece left) [] (bs ++ later) ≡ bs ++ to_come st' [] later
+  pub begun : IsBegun st' []
+
+pub passed_some : (left count : ℕ) → count < left → Passed left count (Piece (left - count))
+passed_some left count l = record {
+  same = λ bs later e. pieces_over (pieces_of 2) left bs later (omega (arith, e)) ∙ ap (λ n. bs ++ pieces_from (Some (left - n)) (pieces_of 2) later) e;
+  begun = (refl, omega arith);
+}
+
+pub passed_all : (left count : ℕ) → count ≤ left → left ≤ count → Passed left count Stop
+passed_all left count l m = record {
+  same = λ bs later e. pieces_over (pieces_of 2) left bs later (omega (arith, e)) ∙ ap (λ n. bs ++ pieces_from (Some n) (pieces_of 2) later) (omega (arith, e));
+  begun = refl;
+}

@@ -5,7 +5,7 @@ use Rattle.std.proofs.lemmas.List.{drop_at, take-append-drop, take_at}
 use Rattle.xd_link.specs.Source.{Gave, Supply, with_given}
 use Rattle.xd_via.specs.Tunnel.{supply_through, tunnel_of}
 use Rattle.xd_via.specs.declared.front.Front.{Front}
-use Rattle.xd_via.specs.inner.Stages.{Follows, FollowsTold, NoneLeft, brings}
+use Rattle.xd_via.specs.inner.Fronts.{Follows, FollowsTold, NoneLeft, brings}
 
 -- what is left is what the front brings
 left_is : (f : Front) (s : Supply) → Follows f s.given → (supply_through s).left ≡ brings f s.left
@@ -22,11 +22,11 @@ passes_one xs bs f f' s t k step none =
     let g = s.given in
     let n = length xs in
     let more : (later : List ℕ) → tunnel_of ((g ++ xs) ++ later) ≡ tunnel_of g ++ (bs ++ brings f' later) = λ later.
-        ap tunnel_of (append_assoc g xs later) ∙ (k (xs ++ later) ∙ ap (λ x. tunnel_of g ++ x) (step later)) in
+    ap tunnel_of (append_assoc g xs later) ∙ (k (xs ++ later) ∙ ap (λ x. tunnel_of g ++ x) (step later)) in
     let now : tunnel_of (g ++ xs) ≡ tunnel_of g ++ bs =
-        ap tunnel_of (sym (append-nil (g ++ xs))) ∙ (more [] ∙ ap (λ x. tunnel_of g ++ x) (ap (λ x. bs ++ x) none ∙ append-nil bs)) in
+    ap tunnel_of (sym (append-nil (g ++ xs))) ∙ (more [] ∙ ap (λ x. tunnel_of g ++ x) (ap (λ x. bs ++ x) none ∙ append-nil bs)) in
     let over : (later : List ℕ) → tunnel_of ((g ++ xs) ++ later) ≡ tunnel_of (g ++ xs) ++ brings f' later = λ later.
-        more later ∙ (sym (append_assoc (tunnel_of g) bs (brings f' later)) ∙ ap (λ x. x ++ brings f' later) (sym now)) in
+    more later ∙ (sym (append_assoc (tunnel_of g) bs (brings f' later)) ∙ ap (λ x. x ++ brings f' later) (sym now)) in
     let follows : Follows f' (g ++ take n s.left) = rw t over in
     let all : s.left ≡ xs ++ drop n s.left = sym (take-append-drop n s.left) ∙ ap (λ x. x ++ drop n s.left) t in
     let left : (supply_through s).left ≡ bs ++ brings f' (drop n s.left) = left_is f s k ∙ (ap (brings f) all ∙ step (drop n s.left)) in

@@ -41,7 +41,7 @@ item_brings channel bs later l m =
     let head = piece_head channel (length bs) in
     let f = pieces_of channel in
     let stands : frame (piece_message channel bs) ++ later ≡ head ++ (bs ++ 81 ∷ later) =
-        ap (λ x. x ++ later) (item_is channel bs) ∙ (append_assoc head (bs ++ 81 ∷ []) later ∙ ap (λ x. head ++ x) (append_assoc bs (81 ∷ []) later)) in
+    ap (λ x. x ++ later) (item_is channel bs) ∙ (append_assoc head (bs ++ 81 ∷ []) later ∙ ap (λ x. head ++ x) (append_assoc bs (81 ∷ []) later)) in
     let stop : pieces_from (Some (length bs - length bs)) f (81 ∷ later) ≡ f later = ap (λ k. pieces_from (Some k) f (81 ∷ later)) (omega arith) in
     ap f stands
     ∙ (head_then channel head (bs ++ 81 ∷ later) refl
@@ -60,52 +60,58 @@ wrote : (call taken bs : List ℕ) → HasCalled call false taken → 0 < length
 wrote call taken bs k l m =
     let item = frame (piece_message 1 bs) in
     let step : (later : List ℕ) → sent_after call ((taken ++ item) ++ later) ≡ sent_after call taken ++ (bs ++ pieces_of 1 later) = λ later.
-        ap (sent_after call) (append_assoc taken item later) ∙ (k.more (item ++ later) ∙ ap (λ x. sent_after call taken ++ x) (item_brings 1 bs later l (omega (arith, m)))) in
+    ap (sent_after call) (append_assoc taken item later) ∙ (k.more (item ++ later) ∙ ap (λ x. sent_after call taken ++ x) (item_brings 1 bs later l (omega (arith, m)))) in
     let now : sent_after call (taken ++ item) ≡ sent_after call taken ++ bs =
-        ap (sent_after call) (sym (append-nil (taken ++ item))) ∙ (step [] ∙ ap (λ x. sent_after call taken ++ x) (ap (λ x. bs ++ x) (short_none 1 [] (omega arith)) ∙ append-nil bs)) in
-    (now, record {
-      whole = omega (arith, k.whole, length-append taken item);
-      more = λ later. step later ∙ (sym (append_assoc (sent_after call taken) bs (pieces_of 1 later)) ∙ ap (λ x. x ++ pieces_of 1 later) (sym now));
-    })
+    ap (sent_after call) (sym (append-nil (taken ++ item))) ∙ (step [] ∙ ap (λ x. sent_after call taken ++ x) (ap (λ x. bs ++ x) (short_none 1 [] (omega arith)) ∙ append-nil bs)) in (
+      now,
+      record {
+        whole = omega (arith, k.whole, length-append taken item);
+        more = λ later. step later ∙ (sym (append_assoc (sent_after call taken) bs (pieces_of 1 later)) ∙ ap (λ x. x ++ pieces_of 1 later) (sym now));
+      },
+    )
 
 -- the close
 ended : (call taken : List ℕ) → HasCalled call false taken → (sent_after call (taken ++ frame last_message) ≡ sent_after call taken) × HasCalled call true (taken ++ frame last_message)
 ended call taken k =
     let item = frame last_message in
     let step : (later : List ℕ) → sent_after call ((taken ++ item) ++ later) ≡ sent_after call taken = λ later.
-        ap (sent_after call) (append_assoc taken item later) ∙ (k.more (item ++ later) ∙ (ap (λ x. sent_after call taken ++ x) (last_brings later) ∙ append-nil (sent_after call taken))) in
-    let now : sent_after call (taken ++ item) ≡ sent_after call taken = ap (sent_after call) (sym (append-nil (taken ++ item))) ∙ step [] in
-    (now, record {
-      whole = omega (arith, k.whole, length-append taken item);
-      more = λ later. step later ∙ (sym now ∙ sym (append-nil (sent_after call (taken ++ item))));
-    })
+    ap (sent_after call) (append_assoc taken item later) ∙ (k.more (item ++ later) ∙ (ap (λ x. sent_after call taken ++ x) (last_brings later) ∙ append-nil (sent_after call taken))) in
+    let now : sent_after call (taken ++ item) ≡ sent_after call taken = ap (sent_after call) (sym (append-nil (taken ++ item))) ∙ step [] in (
+      now,
+      record {
+        whole = omega (arith, k.whole, length-append taken item);
+        more = λ later. step later ∙ (sym now ∙ sym (append-nil (sent_after call (taken ++ item))));
+      },
+    )
 
 -- the call
 begun : (call : List ℕ) → (sent_after call call ≡ []) × HasCalled call false call
 begun call =
-    let now : sent_after call call ≡ [] = ap (pieces_of 1) (drop_all (length call) call (omega arith)) ∙ short_none 1 [] (omega arith) in
-    (now, record {
-      whole = omega arith;
-      more = λ later. ap (pieces_of 1) (drop_at call later (length call) refl) ∙ ap (λ x. x ++ pieces_of 1 later) (sym now);
-    })
+    let now : sent_after call call ≡ [] = ap (pieces_of 1) (drop_all (length call) call (omega arith)) ∙ short_none 1 [] (omega arith) in (
+      now,
+      record {
+        whole = omega arith;
+        more = λ later. ap (pieces_of 1) (drop_at call later (length call) refl) ∙ ap (λ x. x ++ pieces_of 1 later) (sym now);
+      },
+    )
 
 -- of sinks that tell, or do not
 pub told_wrote : (call bs : List ℕ) (old new handed : Option Sunk) → SendsTold call true false old → Took (frame (piece_message 1 bs)) old new → 0 < length bs → length bs ≤ 4096
-  → Took bs (sunk_through call false old handed) (sunk_through call false new handed) × SendsTold call true false new
+    → Took bs (sunk_through call false old handed) (sunk_through call false new handed) × SendsTold call true false new
 told_wrote call bs None new handed k e l m = rw e (refl, tt)
 told_wrote call bs (Some s) new handed k e l m =
     let w = wrote call s.bytes bs k l m in
     rw e (ap (λ x. Some (record { bytes = x; flushed = length (sent_after call (bytes_taken handed)); closed = false })) (w.0), w.1)
 
 pub told_ended : (call : List ℕ) (old new handed : Option Sunk) → SendsTold call true false old → Printed (frame last_message) old new
-  → (sunk_through call true new handed ≡ option_map with_close (sunk_through call false old handed)) × SendsTold call true true new
+    → (sunk_through call true new handed ≡ option_map with_close (sunk_through call false old handed)) × SendsTold call true true new
 told_ended call None new handed k e = rw e (refl, tt)
 told_ended call (Some s) new handed k e =
     let w = ended call s.bytes k in
     rw e (ap (λ x. Some (record { bytes = x; flushed = length (sent_after call (bytes_taken handed)); closed = true })) (w.0), w.1)
 
 pub told_begun : (call : List ℕ) (closed : Bool) (old new handed : Option Sunk) → SendsTold call false closed old → Took call old new
-  → (sunk_through call closed new handed ≡ sunk_through call closed old handed) × SendsTold call true closed new
+    → (sunk_through call closed new handed ≡ sunk_through call closed old handed) × SendsTold call true closed new
 told_begun call closed None new handed k e = rw e (refl, tt)
 told_begun call closed (Some s) new handed k e =
     let w = begun call in
@@ -114,7 +120,7 @@ told_begun call closed (Some s) new handed k e =
     rw e (ap (λ x. Some (record { bytes = x; flushed = length (sent_after call (bytes_taken handed)); closed = closed })) (ap (sent_after call) is ∙ (w.0 ∙ sym before)), rw (k.1) (rw is (w.1)))
 
 pub told_flush : (call : List ℕ) (called closed : Bool) (old new handed : Option Sunk) → SendsTold call called closed old → new ≡ option_map with_flush old
-  → (sunk_through call closed new new ≡ option_map with_flush (sunk_through call closed old handed)) × SendsTold call called closed new
+    → (sunk_through call closed new new ≡ option_map with_flush (sunk_through call closed old handed)) × SendsTold call called closed new
 told_flush call called closed None new handed k e = rw e (refl, tt)
 told_flush call called closed (Some s) new handed k e = rw e (refl, k)
 

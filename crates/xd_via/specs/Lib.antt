@@ -1,4 +1,5 @@
 pub mod Pieces
 pub mod Tunnel
 pub mod Sent
+pub mod Call
 pub mod inner

@@ -2,7 +2,7 @@
 ghost use Rattle.std.specs.Prelude.{◌≡◌, ◌<◌, ◌≤◌, ◌-◌, [], ◌++◌, List, ℕ, length, None, Some};
 ghost use Rattle.xd_via.specs.Pieces.{count_in_front};
 ghost use Rattle.xd_via.specs.Tunnel.{tunnel_of};
-ghost use Rattle.xd_via.specs.inner.Stages.{IsBegun, brings, distance, head_judged, is_edge, is_same, judged, missing, opening_judged, stop_judged};
+ghost use Rattle.xd_via.specs.inner.Stages.{IsBegun, head_judged, is_edge, is_same, judged, opening_judged, stop_judged};
 
 use crate::pieces::count_in_front;
 use arrayvec::ArrayVec;
@@ -39,6 +39,9 @@ pub struct Front {
 }
 
 impl Front {
+    ghost use Rattle.xd_via.specs.declared.front.Stage.TheVariants.{Piece};
+    ghost use Rattle.xd_via.specs.inner.Fronts.{brings, distance, missing};
+
     /// Nothing came yet.
     pub fn new() -> Front
         ensures { (later : List ℕ) → brings result later ≡ tunnel_of later }
@@ -84,7 +87,7 @@ impl Front {
 
     /// So many bytes of the worker came, of those that are to come.
     pub fn pass(&mut self, count: u32, left: u32)
-        requires piece { self.old.stage ≡ Stage.Piece left }
+        requires piece { self.old.stage ≡ Piece left }
         requires within { count ≤ left }
         ensures same { (bytes later : List ℕ) → length bytes ≡ count →
             brings self.old (bytes ++ later) ≡ bytes ++ brings self.new later }

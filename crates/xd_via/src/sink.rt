@@ -20,7 +20,7 @@ const LAST: [u8; 9] = [7, 0, 0, 0, 1, 0, 0, 0, 0];
 /// takes no memory. A call fails only where the link failed in it or in an earlier call, or where it was closed before.
 #[derive(Drop)]
 pub struct TunnelSink<N: Sink + Drop> {
-    inner: N,
+    pub inner: N,
     // The bytes of the call of the relay.
     call: Blob,
     is_called: bool,

@@ -3,7 +3,8 @@ ghost use Rattle.std.specs.Prelude.{◌≡◌, ◌≤◌, ◌<◌, ◌+◌, ◌|
 ghost use Rattle.xd_edge.specs.Faults.{Counted};
 ghost use Rattle.xd_link.specs.Source.{Gave, is_end_of_input};
 ghost use Rattle.xd_via.specs.Tunnel.{supply_through};
-ghost use Rattle.xd_via.specs.inner.Stages.{FollowsTold, NoneLeft, distance, missing};
+ghost use Rattle.xd_via.specs.declared.front.Stage.TheVariants.{Piece};
+ghost use Rattle.xd_via.specs.inner.Fronts.{FollowsTold, NoneLeft, distance, missing};
 
 use crate::front::{Front, Stage};
 use std::sync::Wait;
@@ -15,7 +16,7 @@ use xd_link::Source;
 /// link's end inside a message; from then on each read fails.
 #[derive(Drop)]
 pub struct TunnelSource<S: Source + Drop> {
-    inner: S,
+    pub inner: S,
     front: Front,
     is_ended: bool,
     is_failed: bool,
@@ -73,7 +74,7 @@ impl<S: Source + Drop> TunnelSource<S> {
 
     // Reads once, at most that many bytes of the worker.
     fn read_piece<R: Wait>(&mut self, rt: &R, into: &mut [u8], left: u32) -> Result<usize, Failed>
-        requires piece { self.old.front.stage ≡ Stage.Piece left }
+        requires piece { self.old.front.stage ≡ Piece left }
         requires some { 0 < length into.old }
         ensures count { IfOk result (λ n. (n ≤ length into.old) × (0 < n)) }
         ensures gave { IfOk result (λ n.

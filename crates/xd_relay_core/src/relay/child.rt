@@ -1,5 +1,11 @@
 // What comes of the child.
-ghost use Rattle.std.specs.Prelude.{◌≡◌};
+ghost use Rattle.std.specs.Prelude.{◌≡◌, true, false, OnOk, ℕ};
+ghost use Rattle.xd_value.specs.Tree.{bytes};
+ghost use Rattle.xd_factory.specs.SideTable.{channel_table, opened};
+ghost use Rattle.xd_worker.specs.Logs.{CanOpen};
+ghost use Rattle.xd_worker.specs.Talk.{sent};
+ghost use Rattle.xd_relay_core.specs.Relay.{RelayTurn, at_call, at_talk, began_told, bytes_channel, child_ended};
+ghost use Rattle.xd_relay_core.specs.Stands.{IsRelayTurn};
 
 use super::{Child, RelayCall, RelayCore};
 use crate::call::RelayRefusal;
@@ -14,7 +20,11 @@ const BYTES: u32 = 2;
 
 impl RelayCore {
     // The child was started: its channel opens, and is told on that of the call.
-    pub(super) fn take_child(&mut self, acts: &mut RelayActions) -> Result<(), OutOfMemory> {
+    pub(super) fn take_child(&mut self, acts: &mut RelayActions) -> Result<(), OutOfMemory>
+        ensures { (t : RelayTurn) → IsRelayTurn self.old acts.old t →
+            CanOpen bytes_channel t.talk.table →
+            OnOk result (IsRelayTurn self.new acts.new (at_call t.call (began_told true) t)) }
+    {
         let Some(call) = self.call else {
             return Ok(());
         };
@@ -34,7 +44,10 @@ impl RelayCore {
     }
 
     // The child was not started: the call ends with an error.
-    pub(super) fn take_no_child(&mut self, acts: &mut RelayActions) -> Result<(), OutOfMemory> {
+    pub(super) fn take_no_child(&mut self, acts: &mut RelayActions) -> Result<(), OutOfMemory>
+        ensures { (t : RelayTurn) → IsRelayTurn self.old acts.old t →
+            OnOk result (IsRelayTurn self.new acts.new (at_call t.call (began_told false) t)) }
+    {
         let Some(call) = self.call else {
             return Ok(());
         };
@@ -58,15 +71,22 @@ impl RelayCore {
     pub(super) fn take_bytes(
         &mut self,
         acts: &mut RelayActions,
-        bytes: Blob,
-    ) -> Result<(), OutOfMemory> {
-        let value = Value::Bytes(bytes);
+        piece: Blob,
+    ) -> Result<(), OutOfMemory>
+        ensures { (t : RelayTurn) → IsRelayTurn self.old acts.old t →
+            OnOk result (IsRelayTurn self.new acts.new
+            (at_talk (sent bytes_channel (bytes piece)) t)) }
+    {
+        let value = Value::Bytes(piece);
         let _sent = send(&mut self.side, &mut acts.say, BYTES, &value)?;
         Ok(())
     }
 
     // The child gives no more: its channel is closed, and then that of the call.
-    pub(super) fn take_child_end(&mut self, acts: &mut RelayActions) -> Result<(), OutOfMemory> {
+    pub(super) fn take_child_end(&mut self, acts: &mut RelayActions) -> Result<(), OutOfMemory>
+        ensures { (t : RelayTurn) → IsRelayTurn self.old acts.old t →
+            OnOk result (IsRelayTurn self.new acts.new (at_call t.call child_ended t)) }
+    {
         let Some(call) = self.call else {
             return Ok(());
         };
@@ -82,10 +102,18 @@ impl RelayCore {
 }
 
 // Opens the channel of the child's bytes, where it can open.
-fn open(side: &mut Side) -> Result<(), OutOfMemory> {
+fn open(side: &mut Side) -> Result<(), OutOfMemory>
+    ensures { (number : ℕ) → CanOpen number (channel_table side.old) →
+        OnOk result (channel_table side.new ≡ opened (channel_table side.old)) }
+{
+    // Whether it can is told by how many channels there are.
+    prove!(side.status() <= xd_factory::MAX_ENTRIES);
     match side.open_channel() {
         Ok(_) => Ok(()),
         Err(OpenFault::OutOfMemory) => Err(OutOfMemory),
-        Err(OpenFault::Finished | OpenFault::TooManyOpen | OpenFault::NumbersSpent) => Ok(()),
+        // Where it can, nothing else is refused.
+        Err(OpenFault::Finished) => Ok(()),
+        Err(OpenFault::TooManyOpen) => Ok(()),
+        Err(OpenFault::NumbersSpent) => Ok(()),
     }
 }

@@ -1,10 +1,8 @@
 -- Inner words: how far the bytes of a relay were read.
-use Rattle.std.specs.Prelude.{ℕ, ◌≡◌, ◌+◌, ◌-◌, ◌<◌, ◌==◌, nat_lt, Bool, true, false, List, [], ◌∷◌, ◌++◌, length, take, drop, Option, Some, None, IfSome, if◌then◌else◌}
+use Rattle.std.specs.Prelude.{ℕ, ◌≡◌, ◌+◌, ◌-◌, ◌<◌, ◌==◌, nat_lt, Bool, true, false, List, [], ◌∷◌, ◌++◌, length, take, drop, Option, Some, None, if◌then◌else◌}
 use Rattle.std.specs.Str.{bytes_eq}
-use Rattle.xd_link.specs.Source.{Supply}
 use Rattle.xd_via.specs.Pieces.{behind_stop, count_in_front, pieces_from, pieces_of}
 use Rattle.xd_via.specs.Tunnel.{opening, tunnel_of}
-use Rattle.xd_via.specs.declared.front.Front.{Front}
 use Rattle.xd_via.specs.declared.front.Stage.{Stage}
 use Rattle.xd_via.specs.declared.front.Stage.TheVariants.{Opening, Head, Piece, Stop, Closed, Broken}
 
@@ -16,22 +14,6 @@ to_come (Piece left) front later = pieces_from (Some left) (pieces_of 2) (front 
 to_come Stop front later = behind_stop (pieces_of 2) (front ++ later)
 to_come Closed front later = []
 to_come Broken front later = []
-
--- the same of a front
-abbrev pub brings : Front → List ℕ → List ℕ
-brings f later = to_come f.stage f.bytes.items later
-
--- what was given so far goes on as the front says
-abbrev pub Follows : Front → List ℕ → Type 0
-Follows f given = (later : List ℕ) → tunnel_of (given ++ later) ≡ tunnel_of given ++ brings f later
-
--- the same of a source, where it tells
-abbrev pub FollowsTold : Front → Option Supply → Type 0
-FollowsTold f o = IfSome o (λ s. Follows f s.given)
-
--- nothing more of the worker is left, where it is told
-abbrev pub NoneLeft : Front → Option Supply → Type 0
-NoneLeft f o = IfSome o (λ s. brings f s.left ≡ [])
 
 -- a part that is not whole
 abbrev pub IsBegun : Stage → List ℕ → Type 0
@@ -59,13 +41,6 @@ distance_of (Piece left) size = 0
 distance_of Stop size = 15 - size
 distance_of Closed size = 0
 distance_of Broken size = 0
-
--- the same of a front
-abbrev pub missing : Front → ℕ
-missing f = missing_of f.stage (length f.bytes.items)
-
-abbrev pub distance : Front → ℕ
-distance f = distance_of f.stage (length f.bytes.items)
 
 -- the first bytes of a relay
 abbrev pub opening_judged : List ℕ → Stage
