@@ -59,15 +59,15 @@ abbrev pub count_by : ℕ → ℕ → List ℕ → Option ℕ
 count_by channel n front = cond (nat_lt 0 n && nat_le (n + 6) max_payload && bytes_eq front (piece_head channel n)) (Some n) None
 
 -- a whole head says how many bytes follow, whatever they are
-count_same : (channel : ℕ) (a later : List ℕ) → length a ≡ 14 → count_in_front channel (a ++ later) ≡ count_in_front channel a
+pub count_same : (channel : ℕ) (a later : List ℕ) → 14 ≤ length a → count_in_front channel (a ++ later) ≡ count_in_front channel a
 count_same channel a later l =
     ap (λ n. count_by channel n (take 14 (a ++ later))) (four_same a later 10 (omega (arith, l)))
-    ∙ ap (count_by channel (four_bytes_at a 10)) (take-append-le 14 a later (omega (arith, l)))
+    ∙ ap (count_by channel (four_bytes_at a 10)) (take-append-le 14 a later l)
 
 pub head_then : (channel : ℕ) (a later : List ℕ) → length a ≡ 14 → pieces_of channel (a ++ later) ≡ pieces_from (count_in_front channel a) (pieces_of channel) later
 head_then channel a later l =
     pieces_step channel (a ++ later)
-    ∙ (ap (λ o. pieces_from o (pieces_of channel) (drop 14 (a ++ later))) (count_same channel a later l)
+    ∙ (ap (λ o. pieces_from o (pieces_of channel) (drop 14 (a ++ later))) (count_same channel a later (omega (arith, l)))
     ∙ ap (pieces_from (count_in_front channel a) (pieces_of channel)) (drop_at a later 14 l))
 
 -- bytes of an item, and then further ones

@@ -2,5 +2,6 @@ mod Growing
 mod Heads
 mod Fronts
 mod Passing
+mod Prefixes
 mod Written
 mod Rows

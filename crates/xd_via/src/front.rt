@@ -1,6 +1,5 @@
 // What stands between the bytes of a worker in the bytes of its relay.
-ghost use Rattle.std.specs.Prelude.{◌≡◌, ◌<◌, ◌≤◌, ◌-◌, [], ◌++◌, List, ℕ, length, None, Some};
-ghost use Rattle.xd_via.specs.Pieces.{count_in_front};
+ghost use Rattle.std.specs.Prelude.{◌≡◌, ◌<◌, ◌≤◌, ◌+◌, [], ◌++◌, List, ℕ, length, if◌then◌else◌};
 ghost use Rattle.xd_via.specs.Tunnel.{tunnel_of};
 ghost use Rattle.xd_via.specs.inner.Stages.{IsBegun, head_judged, is_edge, is_same, judged, opening_judged, stop_judged};
 
@@ -74,14 +73,9 @@ impl Front {
         ensures none { brings self.new [] ≡ [] }
         ensures nearer { 0 < length piece.now → distance self.new < distance self.old }
     {
-        if self.bytes.try_extend_from_slice(piece).is_err() {
-            // No more came than are missing.
-            unreachable!()
-        }
+        add(&mut self.bytes, piece);
         let stage = judge(self.stage, self.bytes.as_slice());
-        if !is_same(self.stage, stage) {
-            self.bytes.clear();
-        }
+        keep_if(&mut self.bytes, is_same(self.stage, stage));
         self.stage = stage;
     }
 
@@ -111,6 +105,26 @@ impl Front {
             Stage::Closed => true,
             Stage::Piece(_) | Stage::Stop | Stage::Broken => false,
         }
+    }
+}
+
+// Adds bytes for which there is room.
+fn add(bytes: &mut ArrayVec<u8, 16>, piece: &[u8])
+    requires { length bytes.old.items + length piece.now ≤ 16 }
+    ensures { bytes.new.items ≡ bytes.old.items ++ piece.now }
+{
+    match bytes.try_extend_from_slice(piece) {
+        Ok(()) => (),
+        // There is room.
+        Err(_) => unreachable!(),
+    }
+}
+
+fn keep_if(bytes: &mut ArrayVec<u8, 16>, kept: bool)
+    ensures { bytes.new.items ≡ (if kept then bytes.old.items else []) }
+{
+    if !kept {
+        bytes.clear();
     }
 }
 

@@ -54,7 +54,8 @@ impl<S: Source + Drop> TunnelSource<S> {
 
     // Reads once what is missing before the next byte of the worker, and gives how many bytes that was.
     fn read_front<R: Wait>(&mut self, rt: &R) -> Result<usize, Failed>
-        requires { 0 < missing self.old.front }
+        requires missing { 0 < missing self.old.front }
+        requires open { self.old.is_ended ≡ false }
         ensures kept { option_map supply_through (S.supply self.new.inner) ≡ option_map
             supply_through (S.supply self.old.inner) }
         ensures end_kept { self.new.is_ended ≡ self.old.is_ended }
@@ -76,6 +77,7 @@ impl<S: Source + Drop> TunnelSource<S> {
     fn read_piece<R: Wait>(&mut self, rt: &R, into: &mut [u8], left: u32) -> Result<usize, Failed>
         requires piece { self.old.front.stage ≡ Piece left }
         requires some { 0 < length into.old }
+        requires open { self.old.is_ended ≡ false }
         ensures count { IfOk result (λ n. (n ≤ length into.old) × (0 < n)) }
         ensures gave { IfOk result (λ n.
             Gave (take n into.new) (option_map supply_through (S.supply self.old.inner))
@@ -126,7 +128,7 @@ impl<S: Source + Drop> Source for TunnelSource<S> {
         if self.is_ended || into.is_empty() {
             return Ok(0);
         }
-        while self.front.missing() > 0 {
+        'parts: while self.front.missing() > 0 {
             if self.read_front(rt)? == 0 {
                 return self.meet_end();
             }

@@ -1,0 +1,6 @@
+mod Growing
+mod Heads
+mod Fronts
+mod Prefixes
+mod Written
+mod Rows

@@ -1,0 +1,4 @@
+pub mod Pieces
+pub mod Tunnel
+pub mod Sent
+pub mod inner

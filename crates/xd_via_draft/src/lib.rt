@@ -1,0 +1,4 @@
+//! A draft.
+#![tactic(auto)]
+
+mod front;
