@@ -11,3 +11,4 @@ pub mod Tracing
 pub mod Keeping
 pub mod SideTables
 pub mod Meanings
+mod Rows

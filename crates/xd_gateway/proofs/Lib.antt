@@ -7,3 +7,4 @@ pub mod Sides
 pub mod Hearing
 pub mod Saying
 pub mod Kwargs
+mod Rows

@@ -107,12 +107,14 @@ fn write_news(out: &mut String, news: &What) -> Result<(), AllocError> {
     }
 }
 
-// The news of the messages that these bytes are, in words.
+// The news of the messages that these bytes are, in words. The bytes come one by one.
 fn news_of(alloc: Global, bytes: &[u8]) -> Result<String, Fail> {
     let mut gateway = gateway(alloc)?;
     let _ = run_tests(alloc, &mut gateway)?;
     let mut framer = Framer::new(alloc);
-    framer.feed(bytes)?;
+    for byte in bytes {
+        framer.feed(&[*byte])?;
+    }
     let mut out = String::new(alloc);
     for _ in 0..100 {
         let Some(message) = framer.next() else {

@@ -39,11 +39,11 @@ fn hooked(side: &mut LinkedSide, number: u32) -> Option<(usize, bool)> {
     }
 }
 
-// How many ends callbacks were owed.
-fn owed(side: &mut LinkedSide) -> Option<usize> {
+// The channel of the one callback that is owed an end, and whether that is that the link is lost.
+fn owed(side: &mut LinkedSide) -> Option<(u32, bool)> {
     match side.finish_receiving() {
-        Ok(ends) => Some(ends.len()),
-        Err(_) => None,
+        Ok(ends) if ends.len() == 1 => Some((ends[0].0, matches!(ends[0].1, End::Lost))),
+        Ok(_) | Err(_) => None,
     }
 }
 
@@ -100,7 +100,7 @@ fn the_end_of_the_link_reaches_each_channel(rt: HostRuntime) {
     assert_eq!(rt; opened(&mut odd), Some(1));
     assert_eq!(rt; opened(&mut odd), Some(3));
     assert_eq!(rt; hooked(&mut odd, 1), Some((0, false)));
-    assert_eq!(rt; owed(&mut odd), Some(1));
+    assert_eq!(rt; owed(&mut odd), Some((1, true)));
     assert_eq!(rt; heard(&mut odd, 3), Told::Lost);
     assert_eq!(rt; opened(&mut odd), None);
 }
