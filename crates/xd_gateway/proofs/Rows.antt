@@ -1,6 +1,6 @@
 -- Worked bytes of what a gateway says: STATUS on the first channel, an item on it, and GATEWAY_TERMINATE.
 use Rattle.std.specs.Prelude.{[], ◌∷◌, false, Ok, pos}
-use Rattle.std.proofs.Common.{◌≡◌, refl}
+use Rattle.std.proofs.Common.{◌≡◌, refl, arith}
 use Rattle.xd_frame.specs.Message.{frames}
 use Rattle.xd_factory.specs.declared.side.Side.{Side}
 use Rattle.xd_factory.specs.View.{entry_count, is_finished, next_of}
@@ -10,7 +10,7 @@ use Rattle.xd_gateway.specs.Calls.{item_message, status_message, status_wanted, 
 
 -- a side whose table is empty and whose next number is 1 asks on channel 1 how the other one is
 asks_on_one : (s : Side) → is_finished s ≡ false → entry_count s ≡ 0 → next_of s ≡ 1 → status_wanted s ≡ Ok (status_message 1)
-asks_on_one s goes empty first = grind (goes, empty, first)
+asks_on_one s goes empty first = grind (arith, goes, empty, first)
 
 -- what is said then, with the integer 5 as the item
 said : frames (status_message 1 ∷ item_message 1 (canonical (int (pos 5))) ∷ terminate_message ∷ []) ≡
