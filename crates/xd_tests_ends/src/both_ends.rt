@@ -10,20 +10,19 @@ use xd_journal::{Entry, News, Settings, What};
 use xd_session::Session;
 use xd_steal::Steal;
 
-const SETTINGS: Settings = Settings {
-    mode: ModeKind::WorkSteal,
-    workers: 2,
-    maxfail: 0,
-    restarts: 8,
-    chunk: None,
-    reorder: true,
-    retries: 0,
-};
-
 fn begin(alloc: Global) -> Result<Session<Steal>, Fail>
     ensures { IfOk result (λ s. s.whole ≡ true) }
 {
-    let session = Session::new(alloc, SETTINGS, Steal::new())?;
+    let settings = Settings {
+        mode: ModeKind::WorkSteal,
+        workers: 2,
+        maxfail: 0,
+        restarts: 8,
+        chunk: None,
+        reorder: true,
+        retries: 0,
+    };
+    let session = Session::new(alloc, settings, Steal::new())?;
     Ok(session)
 }
 
@@ -168,6 +167,17 @@ fn told(alloc: Global, entries: &[Entry]) -> Result<String, Fail> {
     Ok(out)
 }
 
+// The tests that run.
+fn write_running(out: &mut String, workers: &[Worker]) -> Result<(), Fail> {
+    for worker in workers {
+        if let Some(test) = worker.runs {
+            write!(out, "{test} runs; ")?;
+        }
+    }
+    Ok(())
+}
+
+// Two workers that are called.
 fn two_workers(alloc: Global) -> Result<Vec<Worker>, Fail> {
     let mut workers = Vec::new(alloc);
     workers.push(Worker::called(alloc)?)?;
@@ -175,26 +185,38 @@ fn two_workers(alloc: Global) -> Result<Vec<Worker>, Fail> {
     Ok(workers)
 }
 
-// The steal of 8 and 9 is answered by nothing, as 8 is next. So 9 alone is asked for, which is queued, and comes back. No
-// worker goes down, and each test is done once.
-const TOLD: &str =
+// What was told and ordered in these moves, and which tests run then.
+fn after(alloc: Global, moves: &str) -> Result<String, Fail> {
+    let mut session = begin(alloc)?;
+    let mut workers = two_workers(alloc)?;
+    play(alloc, &mut session, &mut workers, moves)?;
+    let mut out = told(alloc, &session.journal().entries)?;
+    write_running(&mut out, workers.as_slice())?;
+    Ok(out)
+}
+
+// Both collect, and each gets half of the tests. The second one ends 5 and 6, which is on its way. The first one ends all
+// but one of its tests, which the controller hears: it asks the second one for 8 and 9, while that runs 7 with 8 next.
+const ASKED: (&str, &str) = (
+    "oOnNoOEEeeeen",
+    "run0 0 1 2 3 4; run1 5 6 7 8 9; done0 0; done0 1; done0 2; done0 3; steal1 8 9; 7 runs; ",
+);
+
+// That comes to the second one, which the controller then hears. It gave nothing back, as 8 is next; 9 alone is asked for,
+// is queued, and comes back. The run goes to its end: no worker goes down, and each test is done once.
+const ENDED: (&str, &str) = (
+    "oOnNoOEEeeeenONONoenENoOeEnN",
     "run0 0 1 2 3 4; run1 5 6 7 8 9; done0 0; done0 1; done0 2; done0 3; steal1 8 9; done1 5; done1 6; back1; \
-    steal1 9; back1 9; run0 9; done0 4; shutdown0; done1 7; shutdown1; done0 9; finished0; done1 8; finished1; ";
+    steal1 9; back1 9; run0 9; done0 4; shutdown0; done1 7; shutdown1; done0 9; finished0; done1 8; finished1; ",
+);
 
 #[test]
 fn a_steal_that_meets_completions_on_their_way_is_answered_by_nothing(
     rt: HostRuntime,
 ) -> Result<(), Fail> {
-    let alloc = rt.alloc();
-    let mut session = begin(alloc)?;
-    let mut workers = two_workers(alloc)?;
-    // Both collect, and each gets half of the tests. The second one ends 5 and 6, which is on its way. The first one ends all
-    // but one of its tests, which the controller hears: it asks the second one for 8 and 9, while that runs 7 with 8 next.
-    play(alloc, &mut session, &mut workers, "oOnNoOEEeeeen")?;
-    assert_eq!(rt; workers[1].runs, Some(7));
-    // That comes to the second one, which the controller then hears; and the same run goes to its end.
-    play(alloc, &mut session, &mut workers, "ONONoenENoOeEnN")?;
-    let out = told(alloc, &session.journal().entries)?;
-    assert_eq!(rt; out.as_str(), TOLD);
+    for (moves, told) in [ASKED, ENDED] {
+        let found = after(rt.alloc(), moves)?;
+        assert_eq!(rt; found.as_str(), told);
+    }
     Ok(())
 }

@@ -8,7 +8,7 @@ use xd_frame::{Kind, MAX_PAYLOAD, Message};
 use xd_journal::{Entry, Outcome, What};
 use xd_value::dumps;
 use xd_value_loads::loads;
-use xd_worker::{WorkerCore, WorkerInput};
+use xd_worker::{WorkerActions, WorkerCore, WorkerInput};
 
 /// The payload of the call `run_tests` with the suite `s.toml` in mode worksteal.
 const CALL: &[u8] =
@@ -101,18 +101,28 @@ impl Worker {
         })
     }
 
-    // The worker takes an input. Answers whether it asks for its suite.
+    // What the worker says is on the way, and its test runs. Answers whether it asks for its suite.
+    fn ask(&mut self, acts: WorkerActions) -> Result<bool, Fail> {
+        let WorkerActions {
+            say,
+            suite,
+            run,
+            ..
+        } = acts;
+        for message in say.items {
+            self.news.push(message)?;
+        }
+        if run.is_some() {
+            self.runs = run;
+        }
+        Ok(suite.is_some())
+    }
+
     fn step(&mut self, input: WorkerInput) -> Result<bool, Fail> {
         let Ok(acts) = self.core.step(input) else {
             return Err(Fail::from("an input that a worker takes"));
         };
-        for message in acts.say.items {
-            self.news.push(message)?;
-        }
-        if acts.run.is_some() {
-            self.runs = acts.run;
-        }
-        Ok(acts.suite.is_some())
+        self.ask(acts)
     }
 
     /// The next message comes to the worker.
