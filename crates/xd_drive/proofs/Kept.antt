@@ -11,7 +11,7 @@ use Rattle.xd_session.specs.Bounded.{IsBounded, keeps_few}
 use Rattle.xd_session.specs.Stands.{SessionSeen, StandsForNews, state_of}
 use Rattle.xd_session.proofs.Bounds.{bounded-run}
 use Rattle.xd_session.proofs.Lawful.{stands-proper}
-use Rattle.xd_session.proofs.Steps.{spent-append}
+use Rattle.xd_session_rules.proofs.Growing.{spent-append}
 use Rattle.xd_run_laws.proofs.Logic.{and, differ}
 use Rattle.xd_drive.proofs.Texts.{silent, silent-ending}
 

@@ -29,9 +29,10 @@ use Rattle.xd_run_laws.proofs.Logic.{and, differ, split-and}
 use Rattle.xd_session.specs.Bounded.{IsBounded, keeps_few}
 use Rattle.xd_session_books.specs.Compared.{comparison, ids_to_list}
 use Rattle.xd_session.specs.History.{IsProperRun, Run as SoFar, after_news, begun_run, entries_with, input_of, run_of, said_by}
-use Rattle.xd_session.proofs.Begin.{starts-spend}
+use Rattle.xd_session_rules.proofs.Starts.{starts-spend}
 use Rattle.xd_session_rules.proofs.Shares.{given-is}
-use Rattle.xd_session.proofs.Steps.{none-some, outputs-orderly, same-entry, sound-next, sound-run, spent-more}
+use Rattle.xd_session_rules.proofs.Growing.{spent-more}
+use Rattle.xd_session.proofs.Steps.{none-some, outputs-orderly, same-entry, sound-next, sound-run}
 
 -- the input keeps few bytes, and where n are kept there is room for them
 record Fits (spent : ℕ) (e : Entry) : Type 0 where

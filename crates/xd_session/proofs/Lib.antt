@@ -2,11 +2,9 @@ pub mod Activity
 pub mod Begin
 pub mod Bounds
 pub mod Ends
-pub mod Joins
 pub mod Lawful
 pub mod Part
 pub mod Rows
 pub mod Steady
 pub mod Steps
 pub mod Taking
-pub mod Waiting

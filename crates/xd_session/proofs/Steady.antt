@@ -1,5 +1,5 @@
 -- A session keeps in step with the news that it takes.
-use Rattle.std.proofs.Common.{◌≡◌, ℕ, ◌+◌, List, [], ◌∷◌, ◌++◌, refl, ap, sym, subst, ◌∙◌, Bool, true, false, add-zero, inl, inr}
+use Rattle.std.proofs.Common.{[], ◌≡◌, ℕ, ◌+◌, List, ◌∷◌, ◌++◌, refl, ap, sym, subst, ◌∙◌, Bool, true, false, add-zero}
 use Rattle.std.specs.Prelude.{if◌then◌else◌, ◌==◌, Option, Some, None}
 use Rattle.xd_journal.specs.declared.settings.Settings.{Settings}
 use Rattle.xd_journal.specs.declared.entry.Entry.{Entry}
@@ -10,32 +10,24 @@ use Rattle.xd_run.specs.Histories.{after_starts, is_over, journal_of, after_inpu
 use Rattle.xd_run.specs.Meaning.{Log, log_of, meaning_of, spent_by, with_news}
 use Rattle.xd_run.specs.Outputs.{outputs}
 use Rattle.xd_run.specs.Owes.{someone_owes}
-use Rattle.xd_run.specs.Plan.{Plan, total}
+use Rattle.xd_run.specs.Plan.{Plan}
 use Rattle.xd_run.specs.Proper.{may_follow}
 use Rattle.xd_run.specs.Sharing.{State}
 use Rattle.xd_run.specs.State.{state_at}
-use Rattle.xd_run.specs.Stops.{is_stopped}
-use Rattle.xd_run.specs.Table.{all_items, has_joined}
-use Rattle.xd_run.specs.Workers.{has_collected, is_active, is_shut, was_ready}
-use Rattle.xd_run_laws.proofs.Calls.{tidy-reached}
-use Rattle.xd_run_laws.proofs.Counts.{empty-of_times}
-use Rattle.xd_run_laws.proofs.Members.{distinct-numbered}
-use Rattle.xd_run_laws.proofs.Logic.{cases_of, differ}
+use Rattle.xd_run.specs.Workers.{has_collected, is_active, was_ready}
 use Rattle.xd_run_laws.proofs.OwingRuns.{owed}
-use Rattle.xd_run_laws.proofs.Placed.{due_times}
-use Rattle.xd_run_laws.proofs.Turns.{Tidy}
 use Rattle.xd_run_laws.proofs.Walk.{journal-state}
 use Rattle.xd_session_books.specs.declared.logs.WorkerLog.{WorkerLog}
 use Rattle.xd_session.specs.History.{Run as SoFar, entries_with, input_of, run_of, said_by}
-use Rattle.xd_session_rules.specs.Joining.{IsBare, IsToJoin}
+use Rattle.xd_session_rules.specs.Joining.{IsToJoin}
 use Rattle.xd_session_books.specs.Kept.{log_in, shortened}
 use Rattle.xd_session_books.specs.Known.{Known}
 use Rattle.xd_session_rules.specs.Rules.{At, InStep}
 use Rattle.xd_session.specs.Stands.{SessionSeen, StandsForNews}
 use Rattle.xd_session.specs.inner.Told.{Steady, Told, TookNews}
-use Rattle.xd_session.proofs.Joins.{AllCollected, joins-following}
-use Rattle.xd_session.proofs.Steps.{journal-more, logs-more, meaning-follows, meaning-short, orderly-next, proper-more, run-more, run-taken, short-twice, sound-run, spent-more, state-next}
-use Rattle.xd_session.proofs.Waiting.{AllTold, shut-where, told-following}
+use Rattle.xd_session.proofs.Steps.{logs-more, meaning-follows, meaning-short, run-more, run-taken, short-twice, sound-run}
+use Rattle.xd_session_rules.proofs.Growing.{journal-more, orderly-next, proper-more, spent-more, state-next}
+use Rattle.xd_session_rules.proofs.Newcomers.{newcomer}
 
 -- a session in step stands for a state of a proper run
 module _ (settings : Settings) (entries : List Entry) (logs : List WorkerLog) (spent : ℕ) (b : Books) (kn : Known) (st : Plan → Type 0) (k : InStep settings entries logs spent b kn st) where
@@ -45,42 +37,17 @@ module _ (settings : Settings) (entries : List Entry) (logs : List WorkerLog) (s
   pub steady : Steady (state_at settings entries) b kn st
   steady = record { at = k.at; reached = record { settings = settings; inputs = k.inputs; proper = k.proper; state = following } }
 
-  tidy : Tidy (state_at settings entries)
-  tidy = tidy-reached (state_at settings entries) steady.reached
-
-  collected : AllCollected (state_at settings entries)
-  collected = subst (λ (u : State). AllCollected u) (sym following) (joins-following settings k.inputs k.proper)
-
-  all-told : AllTold (state_at settings entries)
-  all-told = subst (λ (u : State). AllTold u) (sym following) (told-following settings k.inputs k.proper)
-
   -- where it is not over some worker owes the next step
   pub owed-following : is_over (state_at settings entries).books ≡ false → someone_owes (state_at settings entries) ≡ true
   owed-following = subst (λ (u : State). is_over u.books ≡ false → someone_owes u ≡ true) (sym following) (owed settings k.inputs k.proper)
-
-new-seat : (s : State) (w : ℕ) → AllCollected s → has_collected w s.books ≡ false → has_joined w s.books.table ≡ false
-new-seat s w d h = elim (cases_of (has_joined w s.books.table)) [
-  | inl k ↦ absurd (differ (sym h ∙ d w k))
-  | inr k ↦ k
-]
-
-bare-state : (s : State) → Tidy s → s.books.shared ≡ false → IsBare s.books.table
-bare-state s d h = empty-of_times (all_items s.books.table) (λ x. d.placed.whole x ∙ ap (λ q. due_times x q (total s.plan)) h)
-
-shut-state : (s : State) (w : ℕ) → Tidy s → AllTold s → is_stopped s.books ≡ true → is_active w s.books ≡ true → was_ready w s.books ≡ true → is_shut w s.books ≡ true
-shut-state s w d t h a r = shut-where w s.books.members (distinct-numbered s.books.members d.members.numbered) a r (t h w)
-
-new-state : (s : State) (w : ℕ) → Tidy s → AllCollected s → AllTold s → is_active w s.books ≡ true → has_collected w s.books ≡ false → was_ready w s.books ≡ true → IsToJoin w s.books
-new-state s w d c t a h r = record { absent = new-seat s w c h; bare = bare-state s d; told = λ q. shut-state s w d t q a r }
 
 -- whoever gives its collection is new
 pub step-new : (settings : Settings) (entries : List Entry) (logs : List WorkerLog) (spent : ℕ) (b : Books) (kn : Known) (st : Plan → Type 0) → InStep settings entries logs spent b kn st → (w : ℕ) → is_active w b ≡ true → has_collected w b ≡ false
     → was_ready w b ≡ true → IsToJoin w b
 step-new settings entries logs spent b kn st k w a h r =
-    let s = state_at settings entries in
-    let e : s.books ≡ b = sym k.at.books_are in
+    let e : (state_at settings entries).books ≡ b = sym k.at.books_are in
     subst (λ (d : Books). IsToJoin w d) e
-    (new-state s w (tidy settings entries logs spent b kn st k) (collected settings entries logs spent b kn st k) (all-told settings entries logs spent b kn st k)
+    (newcomer (state_at settings entries) (steady settings entries logs spent b kn st k).reached w
     (ap (λ (d : Books). is_active w d) e ∙ a) (ap (λ (d : Books). has_collected w d) e ∙ h) (ap (λ (d : Books). was_ready w d) e ∙ r))
 
 next-by : (settings : Settings) (entries now : List Entry) (logs logs_now : List WorkerLog) (spent spent_now : ℕ) (b c : Books) (kn kc : Known) (st st_now : Plan → Type 0) (o : Option Entry) → InStep settings entries logs spent b kn st

@@ -1,11 +1,8 @@
 -- What the verdict on a piece of news says of its meaning.
-use Rattle.std.proofs.Common.{◌≡◌, ℕ, ◌+◌, ◌≤◌, List, [], ◌∷◌, length, refl, ap, sym, subst, ◌∙◌, Bool, true, false, not, ◌&&◌, arith}
-use Rattle.std.specs.Prelude.{if◌then◌else◌, ◌==◌, nat_le, Option, Some, None}
-use Rattle.std.specs.List.{list_all}
-use Rattle.std.proofs.lemmas.Bool.Decides.{nat_tests}
+use Rattle.std.proofs.Common.{[], ◌≡◌, ℕ, ◌+◌, ◌≤◌, List, ◌∷◌, refl, ap, sym, subst, ◌∙◌, Bool, true, false, not, ◌&&◌, arith}
+use Rattle.std.specs.Prelude.{if◌then◌else◌, ◌==◌, Option, Some, None}
 use Rattle.xd_journal.specs.declared.entry.Entry.{Entry}
 use Rattle.xd_journal.specs.declared.entry.Entry.TheVariants.{Ready, Collected, Done, Back, Finished, Refused, NotStarted}
-use Rattle.xd_journal.specs.declared.entry.Ids.{Ids}
 use Rattle.xd_journal.specs.declared.entry.Outcome.{Outcome}
 use Rattle.xd_journal.specs.declared.news.What.{What}
 use Rattle.xd_journal.specs.declared.news.What.TheVariants as what
@@ -13,14 +10,10 @@ use Rattle.xd_journal.specs.Kept.{most_of_all}
 use Rattle.xd_run.specs.Books.{Books}
 use Rattle.xd_run.specs.Meaning.{Log, any_open, breach, given_ids, is_of, is_open_log, may_start_log, meaning_of, output_of, spent_by, with_news}
 use Rattle.xd_run.specs.Plan.{Plan}
-use Rattle.xd_edge.specs.Limits.{most_tests}
-use Rattle.xd_edge.specs.Ids.{is_id}
-use Rattle.xd_run.specs.Proper.{are_ids, may_follow, names_head, no_text_twice}
+use Rattle.xd_run.specs.Proper.{may_follow, names_head}
 use Rattle.xd_run.specs.Sharing.{State}
-use Rattle.xd_run.specs.Table.{held}
-use Rattle.xd_run.specs.Workers.{has_collected, is_active, is_shut, was_ready}
-use Rattle.xd_run_laws.proofs.Logic.{and, not_true, split-and}
-use Rattle.xd_run_laws.proofs.Placed.{empty_of}
+use Rattle.xd_run.specs.Workers.{is_active}
+use Rattle.xd_run_laws.proofs.Logic.{and, split-and}
 use Rattle.xd_session_rules.specs.declared.judge.Verdict.TheVariants.{Silent, Follows, Breach}
 use Rattle.xd_session_books.specs.declared.logs.WorkerLog.{WorkerLog}
 use Rattle.xd_session_rules.specs.Judged.{follows_where, judged, silent_where}
@@ -28,8 +21,6 @@ use Rattle.xd_session_books.specs.Kept.{log_in, shortened}
 use Rattle.xd_session_books.specs.Known.{Known}
 use Rattle.xd_session_rules.specs.Rules.{At, Comes, Ruled}
 use Rattle.xd_session.specs.inner.Told.{Steady, Told, TookNews}
-use Rattle.xd_session_rules.proofs.Disorder.{in_order, orderly-collection}
-use Rattle.xd_session_rules.proofs.Shares.{given-is}
 
 -- verdicts
 
@@ -147,37 +138,6 @@ done-follows w i o m out log s a h =
 
 pub done-meant : (w i : ℕ) (o : Outcome) (m : ℕ) (log : Option Log) (spent : ℕ) (s : State) → judged w log s (what.Done i o m) ≡ Follows → meaning_of w log spent s (what.Done i o m) ≡ Some (Done w i o m (output_of w o log spent s))
 done-meant w i o m log spent s h = meaning-fine (names_head w i s && is_of i log && not (any_open log)) (Done w i o m (output_of w o log spent s)) (breach w log spent s) h
-
--- whoever ends holds nothing
-pub finished-idle : (w : ℕ) (s : State) (b : Books) (k : Known) (st : Plan → Type 0) → At s b k st → may_follow s (Finished w) ≡ true → held w b.table ≡ []
-finished-idle w s b k st a h =
-    ap (λ (d : Books). held w d.table) a.books_are
-    ∙ empty_of (held w s.books.table) (split-and (is_active w s.books && is_shut w s.books && has_collected w s.books) (length (held w s.books.table) == 0) h).1
-
--- what is known of a collection that may follow
-pub record Orderly (w : ℕ) (own : List (List ℕ)) (b : Books) : Type 0 where
-  pub few : length own ≤ most_tests
-  pub ordered : (list_all is_id own && no_text_twice own) ≡ true
-  pub uncollected : has_collected w b ≡ false
-  pub ready : was_ready w b ≡ true
-
-collection-by : (w : ℕ) (own : List (List ℕ)) (s : State) (g : Ids) → given_ids w own s ≡ Collected w g → may_follow s (given_ids w own s) ≡ true → in_order own ≡ true → Orderly w own s.books
-collection-by w own s g e h k =
-    let a = split-and (is_active w s.books && was_ready w s.books && not (has_collected w s.books)) (are_ids g w s) (ap (may_follow s) (sym e) ∙ h) in
-    let b = split-and (is_active w s.books && was_ready w s.books) (not (has_collected w s.books)) a.0 in
-    let c = split-and (nat_le (length own) most_tests && list_all is_id own) (no_text_twice own) k in
-    let d = split-and (nat_le (length own) most_tests) (list_all is_id own) c.0 in
-    record {
-      few = grind (arith, nat_tests, d.0);
-      ordered = and d.1 c.1;
-      uncollected = not_true (has_collected w s.books) b.1;
-      ready = (split-and (is_active w s.books) (was_ready w s.books) b.0).1;
-    }
-
-pub collection : (w : ℕ) (own : List (List ℕ)) (s : State) (b : Books) (k : Known) (st : Plan → Type 0) → At s b k st → list_all (λ l. nat_le (length l.ids) most_tests) b.lists ≡ true
-    → list_all (λ l. list_all is_id l.ids && no_text_twice l.ids) b.lists ≡ true → may_follow s (given_ids w own s) ≡ true → Orderly w own b
-collection w own s b k st a few ordered h =
-    subst (λ (d : Books). Orderly w own d) (sym a.books_are) (collection-by w own s _ (given-is w own s) h (orderly-collection w own s b a.books_are few ordered h))
 
 -- where the news means nothing all is as before
 pub told-none : (input : Option Entry) (s : State) (es : List Entry) (spent : ℕ) (b : Books) (k : Known) (st : Plan → Type 0) → At s b k st → input ≡ None → spent ≤ most_of_all → Told input s es es spent spent b k st

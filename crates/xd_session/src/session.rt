@@ -1,9 +1,9 @@
 // The session.
 ghost use Rattle.std.specs.Prelude.{◌≡◌, List, ◌++◌, ◌∷◌, [], length, true, false, OnOk, OnErr, IfOk};
 ghost use Rattle.xd_journal.specs.declared.news.News.{News};
-ghost use Rattle.xd_run.specs.Histories.{is_over, starts_from};
+ghost use Rattle.xd_run.specs.Histories.{is_over};
 ghost use Rattle.xd_run.specs.Owes.{someone_owes};
-ghost use Rattle.xd_run.specs.State.{no_one, after_entries};
+ghost use Rattle.xd_run.specs.State.{no_one};
 ghost use Rattle.xd_run.specs.Workers.{is_active};
 ghost use Rattle.xd_session_books.specs.Books.{books_of};
 ghost use Rattle.xd_run.specs.Ending.{ending, may_close, stop_of};
@@ -16,10 +16,10 @@ use crate::take::Core;
 use std::alloc::Global;
 use std::marker::Model;
 use xd_edge::OutOfMemory;
-use xd_journal::{Entry, Journal, News, Settings};
+use xd_journal::{Journal, News, Settings};
 use xd_ledger::Mode;
 use xd_session_books::{KnownPlan, Logs, RunBooks};
-use xd_session_rules::{RunState, end};
+use xd_session_rules::{RunState, end, start_all};
 
 /// The part of the controller that decides. It stands for the news that it took: its journal is the one that they make.
 /// Once it runs out of memory it is given up.
@@ -51,26 +51,6 @@ impl<M: Mode> Model for Session<M> {
         (books_of s.core.state.books) (known_by s.core.state.known) (M.stands s.core.state.mode) };
 }
 
-// The first workers are started, each at the slot of its number.
-fn start_all(workers: u32, books: &mut RunBooks, journal: &mut Journal) -> Result<(), OutOfMemory>
-    requires started { books_of books.old ≡ (no_one (books_of books.old).settings).books }
-    requires empty { journal.old.entries.items ≡ [] }
-    ensures books { OnOk result
-        (books_of books.new ≡ (after_entries (no_one (books_of books.old).settings)
-        (starts_from 0 workers)).books) }
-    ensures entries { OnOk result (journal.new.entries.items ≡ starts_from 0 workers) }
-    ensures settings { journal.new.settings ≡ journal.old.settings }
-{
-    for worker in 0..workers {
-        books.start(worker, worker)?;
-        journal.push(Entry::Start {
-            worker,
-            slot: worker,
-        })?;
-    }
-    Ok(())
-}
-
 impl<M: Mode> Session<M> {
     /// The session at the start of a run with 1 to 32 workers and at most 1,000 restarts, with a mode at its start by these
     /// settings. Its journal has the Start entries of the first workers.
@@ -84,7 +64,7 @@ impl<M: Mode> Session<M> {
     {
         let mut books = RunBooks::new(alloc, settings)?;
         let mut journal = Journal::new(alloc, settings);
-        start_all(settings.workers, &mut books, &mut journal)?;
+        start_all(settings.workers, &mut books, &mut journal.entries)?;
         let core = Core {
             state: RunState {
                 mode,

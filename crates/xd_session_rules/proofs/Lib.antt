@@ -2,7 +2,12 @@ pub mod Acts
 pub mod Bare
 pub mod Closing
 pub mod Disorder
+pub mod Growing
+pub mod Joins
 pub mod Judging
+pub mod Newcomers
 pub mod Orders
 pub mod Retrying
 pub mod Shares
+pub mod Starts
+pub mod Waiting

@@ -1,5 +1,5 @@
 //! What the news of a worker do to a run: whether they may come, and the rule of each input, over the books of the run
-//! and its mode.
+//! and its mode; and how a run begins and ends.
 #![tactic(auto)]
 
 mod collecting;
@@ -9,8 +9,10 @@ mod judge;
 mod losses;
 mod outputs;
 mod rules;
+mod starting;
 mod state;
 
 pub use ending::end;
 pub use judge::Verdict;
+pub use starting::start_all;
 pub use state::RunState;

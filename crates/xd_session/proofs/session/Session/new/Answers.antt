@@ -14,14 +14,14 @@ use Rattle.xd_session.proofs.session.Session.new.Goals as goal
 pub invariant_of-result : goal.invariant_of-result
 invariant_of-result g c = λ h.
     (let e : (books_of c.in_ok-books.books).settings ≡ c.args.settings = ap (λ (b : Books). b.settings) c.in_ok-books.ensures in
-    subst (λ (ls : List WorkerLog). InStep c.start_all.new.journal.settings c.start_all.new.journal.entries.items ls 0 (books_of c.start_all.new.books) (known_by c.new-2.result) (g.M.Mode.stands c.args.mode)) (sym c.new-3.ensures)
-    (begun-step c.args.settings _ _ _ _ _ (c.start_all.ensures.settings ∙ c.new-journal.ensures.settings) c.new-2.ensures c.requires.settings c.requires.fresh
+    subst (λ (ls : List WorkerLog). InStep c.new-journal.result.settings c.start_all.new.entries.items ls 0 (books_of c.start_all.new.books) (known_by c.new-2.result) (g.M.Mode.stands c.args.mode)) (sym c.new-3.ensures)
+    (begun-step c.args.settings _ _ _ _ _ c.new-journal.ensures.settings c.new-2.ensures c.requires.settings c.requires.fresh
     (c.in_ok-start_all.ensures.books ∙ ap (λ (s : Settings). (after_entries (no_one s) (starts_from 0 c.args.settings.workers)).books) e) c.in_ok-start_all.ensures.entries))
 
 pub returns-clause-owes : goal.returns-clause-owes
 returns-clause-owes g c = λ h.
     (let e : (books_of c.in_ok-books.books).settings ≡ c.args.settings = ap (λ (b : Books). b.settings) c.in_ok-books.ensures in
     owed-following _ _ _ _ _ _ _
-    (begun-step c.args.settings c.start_all.new.journal.settings c.start_all.new.journal.entries.items (books_of c.start_all.new.books) (known_by c.new-2.result) (g.M.Mode.stands c.args.mode)
-    (c.start_all.ensures.settings ∙ c.new-journal.ensures.settings) c.new-2.ensures c.requires.settings c.requires.fresh
+    (begun-step c.args.settings c.new-journal.result.settings c.start_all.new.entries.items (books_of c.start_all.new.books) (known_by c.new-2.result) (g.M.Mode.stands c.args.mode)
+    c.new-journal.ensures.settings c.new-2.ensures c.requires.settings c.requires.fresh
     (c.in_ok-start_all.ensures.books ∙ ap (λ (s : Settings). (after_entries (no_one s) (starts_from 0 c.args.settings.workers)).books) e) c.in_ok-start_all.ensures.entries) h)

@@ -10,7 +10,8 @@ use Rattle.xd_session_rules.specs.declared.judge.Verdict.TheVariants.{Follows}
 use Rattle.xd_session_rules.specs.Judged.{judged}
 use Rattle.xd_session_books.specs.Kept.{log_in}
 use Rattle.xd_session_rules.proofs.Shares.{given-is}
-use Rattle.xd_session.proofs.Taking.{collection, comes, follows-fine, meaning-fine, never-follows, told-ruled}
+use Rattle.xd_session_rules.proofs.Newcomers.{collection}
+use Rattle.xd_session.proofs.Taking.{comes, follows-fine, meaning-fine, never-follows, told-ruled}
 use Rattle.xd_session.proofs.take.Core.follow.Goals as goal
 
 pub collected-requires-clause-few : goal.collected-requires-clause-few
