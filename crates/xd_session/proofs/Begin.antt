@@ -11,7 +11,6 @@ use Rattle.std.proofs.lemmas.List.{append-nil}
 use Rattle.xd_session_books.specs.Known.{Known, known_plan}
 use Rattle.xd_session_rules.specs.Rules.{At, InStep}
 use Rattle.xd_session.specs.Stands.{CanBegin}
-
 use Rattle.xd_session_rules.proofs.Starts.{begun-at, starts-spend}
 
 pub begun-proper : (settings : Settings) → CanBegin settings → IsProper settings []

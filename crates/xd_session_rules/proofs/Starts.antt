@@ -49,4 +49,3 @@ pub begun-at : (settings : Settings) (n : ℕ) (b : Books) (stands : Plan → Ty
 begun-at settings n b stands f e =
     let k = starts-moved settings 0 n [] in
     subst (λ v. At v b (known_plan (no_one settings).plan) stands) (sym (ap settled k)) (record { books_are = e ∙ ap (λ (s : State). s.books) k; known_is = refl; stands_for = λ q. f })
-
