@@ -1,6 +1,8 @@
 pub mod Agreeing
 pub mod Coming
 pub mod Exact
+pub mod Failures
+pub mod Limits
 pub mod Lone
 pub mod Playing
 pub mod Tells

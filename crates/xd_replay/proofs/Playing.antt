@@ -23,7 +23,7 @@ use Rattle.xd_replay.specs.Alone.{AreAlone, EndsAlone}
 use Rattle.xd_replay.specs.Checked.{CanBeLeft}
 use Rattle.xd_replay.specs.Told.{room_of}
 use Rattle.xd_replay.specs.Verdict.{IsFound, StopsAt}
-use Rattle.xd_replay.specs.declared.check.Verdict.TheVariants.{Checked, BadAt}
+use Rattle.xd_replay.specs.declared.checking.Verdict.TheVariants.{Checked, BadAt}
 use Rattle.xd_replay.specs.inner.Lone.{EndsBy, IsBegunAt, IsCollection, IsKeptBy, Played}
 use Rattle.xd_replay.specs.inner.Replayed.{where_whole}
 use Rattle.xd_replay.specs.inner.Results.{kept_after}

@@ -32,8 +32,8 @@ use Rattle.xd_replay.specs.Alone.{most_retries}
 use Rattle.xd_replay.specs.Checked.{CanBeLeft}
 use Rattle.xd_replay.specs.Told.{is_told}
 use Rattle.xd_replay.specs.Verdict.{IsFound, StopsAt}
-use Rattle.xd_replay.specs.declared.check.Verdict.{Verdict}
-use Rattle.xd_replay.specs.declared.check.Verdict.TheVariants.{Checked, BadAt}
+use Rattle.xd_replay.specs.declared.checking.Verdict.{Verdict}
+use Rattle.xd_replay.specs.declared.checking.Verdict.TheVariants.{Checked, BadAt}
 use Rattle.xd_replay.specs.inner.Compared.{AgreeFor}
 use Rattle.xd_replay.specs.inner.Good.{AreGood, spent_at}
 use Rattle.xd_replay.specs.inner.Replayed.{Begun, DidCome, IsKnown, MayCome, NoInputAt, Replayed, where_whole}

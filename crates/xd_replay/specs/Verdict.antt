@@ -4,8 +4,8 @@ use Rattle.xd_journal.specs.declared.settings.Settings.{Settings}
 use Rattle.xd_journal.specs.declared.entry.Entry.{Entry}
 use Rattle.xd_journal.specs.declared.journal.Journal.{Journal}
 use Rattle.xd_replay.specs.Checked.{CanBeLeft}
-use Rattle.xd_replay.specs.declared.check.Verdict.{Verdict}
-use Rattle.xd_replay.specs.declared.check.Verdict.TheVariants.{Checked, BadAt}
+use Rattle.xd_replay.specs.declared.checking.Verdict.{Verdict}
+use Rattle.xd_replay.specs.declared.checking.Verdict.TheVariants.{Checked, BadAt}
 
 -- A run with these settings can have left entries that begin with these.
 abbrev pub Begins : Settings → List Entry → Type 0

@@ -10,7 +10,7 @@ ghost use Rattle.xd_replay.specs.Alone.{AreAlone};
 ghost use Rattle.xd_replay.specs.Verdict.{IsFound};
 ghost use Rattle.xd_replay.specs.inner.Lone.{EndsBy, IsBegunAt, IsCollection, IsKeptBy, IsOverOf, Played, StepsTo};
 
-use crate::check::Verdict;
+use crate::checking::Verdict;
 use crate::replay::room_of;
 use crate::walk::where_whole;
 use std::alloc::Global;

@@ -2,13 +2,13 @@
 #![tactic(auto)]
 
 mod alone;
-mod check;
+mod checking;
 mod compare;
+mod failed;
 mod laws;
 mod replay;
 mod walk;
 
-pub use alone::check_alone;
-pub use check::Verdict;
+pub use checking::{Verdict, check};
+pub use failed::failed_ids;
 pub use laws::checked_law;
-pub use walk::check_with;

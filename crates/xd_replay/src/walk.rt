@@ -11,7 +11,7 @@ ghost use Rattle.xd_replay.specs.Alone.{most_retries};
 ghost use Rattle.xd_replay.specs.Verdict.{IsFound};
 ghost use Rattle.xd_replay.specs.inner.Replayed.{Begun, IsNext, NoInputAt, Replayed, where_whole};
 
-use crate::check::Verdict;
+use crate::checking::Verdict;
 use crate::compare::{agree_for, agree_from, agree_past};
 use crate::replay::Replay;
 use std::alloc::Global;

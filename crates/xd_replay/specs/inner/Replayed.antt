@@ -15,8 +15,8 @@ use Rattle.xd_session_rules.specs.Rules.{At, Ruled}
 use Rattle.xd_session.specs.inner.Told.{Steady}
 use Rattle.xd_replay.specs.Told.{is_told}
 use Rattle.xd_replay.specs.Verdict.{StopsAt}
-use Rattle.xd_replay.specs.declared.check.Verdict.{Verdict}
-use Rattle.xd_replay.specs.declared.check.Verdict.TheVariants.{Checked, BadAt}
+use Rattle.xd_replay.specs.declared.checking.Verdict.{Verdict}
+use Rattle.xd_replay.specs.declared.checking.Verdict.TheVariants.{Checked, BadAt}
 use Rattle.xd_replay.specs.declared.walk.Step.{Step}
 use Rattle.xd_replay.specs.declared.walk.Step.TheVariants.{On, Bad}
 use Rattle.xd_replay.specs.inner.Good.{AreGood, spent_at}

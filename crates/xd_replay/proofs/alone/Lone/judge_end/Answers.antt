@@ -7,7 +7,7 @@ use Rattle.xd_journal.specs.declared.entry.Entry.TheVariants.{Over}
 use Rattle.xd_journal.specs.Local.{local_entries}
 use Rattle.xd_run.specs.State.{after_entries, no_one}
 use Rattle.xd_replay.specs.Verdict.{IsFound}
-use Rattle.xd_replay.specs.declared.check.Verdict.{Verdict}
+use Rattle.xd_replay.specs.declared.checking.Verdict.{Verdict}
 use Rattle.xd_replay.specs.inner.Lone.{EndsBy, IsOverOf}
 use Rattle.xd_replay.proofs.Playing.{bad-nothing, bad-other, here-at, over-same, whole-end}
 use Rattle.xd_replay.proofs.alone.Lone.judge_end.Goals as goal

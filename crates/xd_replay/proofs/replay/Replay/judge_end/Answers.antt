@@ -5,7 +5,7 @@ use Rattle.xd_run.specs.Ending.{ending}
 use Rattle.xd_run.specs.State.{is_input}
 use Rattle.xd_session_books.specs.Books.{books_of}
 use Rattle.xd_replay.specs.Verdict.{IsFound}
-use Rattle.xd_replay.specs.declared.check.Verdict.{Verdict}
+use Rattle.xd_replay.specs.declared.checking.Verdict.{Verdict}
 use Rattle.xd_replay.specs.inner.Compared.{AgreeFor}
 use Rattle.xd_replay.proofs.Walking.{bad-end, none-over, not-over, quiet-end, whole-end, whole-over}
 use Rattle.xd_replay.proofs.replay.Replay.judge_end.Goals as goal
