@@ -152,6 +152,7 @@ passed_some left count l = record {
 
 pub passed_all : (left count : ℕ) → count ≤ left → left ≤ count → Passed left count Stop
 passed_all left count l m = record {
-  same = λ bs later e. pieces_over (pieces_of 2) left bs later (omega (arith, e)) ∙ ap (λ n. bs ++ pieces_from (Some n) (pieces_of 2) later) (omega (arith, e));
+  same = λ bs later e. (let none : left - length bs ≡ 0 = omega (arith, e, l, m) in
+      pieces_over (pieces_of 2) left bs later (omega (arith, e, l, m)) ∙ ap (λ n. bs ++ pieces_from (Some n) (pieces_of 2) later) none);
   begun = refl;
 }

@@ -4,6 +4,7 @@ use Rattle.std.specs.Prelude.{nat_lt, nat_le, slice_index, ◌&&◌}
 use Rattle.std.specs.Int.{from_be_bytes, w32}
 use Rattle.std.specs.Str.{bytes_eq}
 use Rattle.std.proofs.lemmas.Bool.{false_from_ne_true}
+use Rattle.std.proofs.lemmas.Grind.{common_steps}
 use Rattle.std.proofs.lemmas.List.{drop_all, drop_at, get_or_append_left, length-take, take-append-le, take-take, take_at}
 use Rattle.std.proofs.lemmas.Slice.Eq.{bytes_eq-Decides}
 use Rattle.xd_frame.specs.Header.{four_bytes_at}
@@ -72,19 +73,26 @@ head_then channel a later l =
 
 -- bytes of an item, and then further ones
 pub pieces_over : (f : List ℕ → List ℕ) (left : ℕ) (bs later : List ℕ) → length bs ≤ left → pieces_from (Some left) f (bs ++ later) ≡ bs ++ pieces_from (Some (left - length bs)) f later
-pieces_over f left [] later l = refl
+pieces_over f left [] later l =
+    let same : left ≡ left - 0 = omega arith in
+    ap (λ n. pieces_from (Some n) f later) same
 pieces_over f zero (b ∷ bs) later l = absurd (omega arith)
-pieces_over f (suc left) (b ∷ bs) later l = ap (λ x. b ∷ x) (pieces_over f left bs later (omega arith))
+pieces_over f (suc left) (b ∷ bs) later l =
+    let same : left - length bs ≡ suc left - length (b ∷ bs) = omega arith in
+    ap (λ x. b ∷ x) (pieces_over f left bs later (omega arith) ∙ ap (λ n. bs ++ pieces_from (Some n) f later) same)
+
+none_some : (n : ℕ) → None ≡ Some n → ⊥
+none_some n e = cc
 
 -- the count of a head is over 0
-positive : (b c : Bool) (n m : ℕ) → cond (nat_lt 0 m && b && c) (Some m) None ≡ Some n → 0 < n
-positive b c n zero e = cc
-positive true true n (suc m) e = let s : suc m ≡ n = cc in omega (arith, s)
-positive true false n (suc m) e = cc
-positive false c n (suc m) e = cc
+positive : (a b c : Bool) (n m : ℕ) → nat_lt 0 m ≡ a → cond (a && b && c) (Some m) None ≡ Some n → 0 < n
+positive true true true n m f e = let same : m ≡ n = cc in let some : 0 < m = grind (arith, common_steps, f) in omega (arith, same, some)
+positive true true false n m f e = absurd (none_some n e)
+positive true false c n m f e = absurd (none_some n e)
+positive false b c n m f e = absurd (none_some n e)
 
 pub some_bytes : (channel : ℕ) (a : List ℕ) (n : ℕ) → count_in_front channel a ≡ Some n → 0 < n
-some_bytes channel a n e = positive (nat_le (four_bytes_at a 10 + 6) max_payload) (bytes_eq (take 14 a) (piece_head channel (four_bytes_at a 10))) n (four_bytes_at a 10) e
+some_bytes channel a n e = positive (nat_lt 0 (four_bytes_at a 10)) (nat_le (four_bytes_at a 10 + 6) max_payload) (bytes_eq (take 14 a) (piece_head channel (four_bytes_at a 10))) n (four_bytes_at a 10) refl e
 
 -- the opening, whole
 pub opening_then : (a later : List ℕ) → length a ≡ 16 → bytes_eq a (take (length a) opening) ≡ true → tunnel_of (a ++ later) ≡ pieces_of 2 later

@@ -50,7 +50,7 @@ grow_within (suc n) channel a b false e k =
     let o = count_in_front channel a in
     let g = grow_from o f (drop 14 a) b (λ xs j. grow_within n channel xs b (nat_lt (length xs) 14) refl (omega (arith, j, k, l, length-drop 14 a))) in
     let then : pieces_of channel (a ++ b) ≡ pieces_from o f (drop 14 a ++ b) =
-        pieces_step channel (a ++ b) ∙ (ap (λ p. pieces_from p f (drop 14 (a ++ b))) (count_same channel a b l) ∙ ap (pieces_from o f) (drop-append-le 14 a b l)) in
+    pieces_step channel (a ++ b) ∙ (ap (λ p. pieces_from p f (drop 14 (a ++ b))) (count_same channel a b l) ∙ ap (pieces_from o f) (drop-append-le 14 a b l)) in
     (g.0, then ∙ (g.1 ∙ ap (λ x. x ++ g.0) (sym (pieces_step channel a))))
 
 -- the bytes of items are a first part of those when more bytes follow

@@ -42,7 +42,8 @@ item_brings channel bs later l m =
     let f = pieces_of channel in
     let stands : frame (piece_message channel bs) ++ later ≡ head ++ (bs ++ 81 ∷ later) =
     ap (λ x. x ++ later) (item_is channel bs) ∙ (append_assoc head (bs ++ 81 ∷ []) later ∙ ap (λ x. head ++ x) (append_assoc bs (81 ∷ []) later)) in
-    let stop : pieces_from (Some (length bs - length bs)) f (81 ∷ later) ≡ f later = ap (λ k. pieces_from (Some k) f (81 ∷ later)) (omega arith) in
+    let none : length bs - length bs ≡ 0 = omega arith in
+    let stop : pieces_from (Some (length bs - length bs)) f (81 ∷ later) ≡ f later = ap (λ k. pieces_from (Some k) f (81 ∷ later)) none in
     ap f stands
     ∙ (head_then channel head (bs ++ 81 ∷ later) refl
     ∙ (ap (λ o. pieces_from o f (bs ++ 81 ∷ later)) (head_says channel (length bs) l m)

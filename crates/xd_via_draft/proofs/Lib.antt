@@ -1,6 +1,0 @@
-mod Growing
-mod Heads
-mod Fronts
-mod Prefixes
-mod Written
-mod Rows

@@ -1,4 +1,0 @@
-pub mod Pieces
-pub mod Tunnel
-pub mod Sent
-pub mod inner

@@ -1,4 +1,0 @@
-//! A draft.
-#![tactic(auto)]
-
-mod front;
