@@ -1,3 +1,4 @@
 pub mod Begins
+pub mod Completes
 pub mod Refused
 pub mod Workers

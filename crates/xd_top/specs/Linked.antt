@@ -1,18 +1,22 @@
 -- What a run on workers comes to.
-use Rattle.std.specs.Prelude.{ℕ, ◌≡◌, List, Option, Some, None}
+use Rattle.std.specs.Prelude.{ℕ, ◌≡◌, All, List, Option, Some, None}
 use Rattle.xd_journal.specs.declared.journal.Journal.{Journal}
 use Rattle.xd_drive.specs.Seen.{TurnScene}
 use Rattle.xd_dist.specs.Linked.{EndedLink, LinkedRun, LinksSeen, Setup, links_seen}
+use Rattle.xd_complete.specs.Complete.{GivesAll, IsComplete, NothingRose}
 use Rattle.xd_top.specs.Outside.{Outside}
 
 -- what a run on workers sees of the outside
 abbrev pub seen_by_run : Outside → LinksSeen
 seen_by_run o = links_seen o.starter.begun o.starter.faults o.crews.readers o.streams.out.sunk o.streams.out.faults
 
--- The suite was run on workers. Its file is read by them, and the programs of its tests are theirs: this program reads no
--- file, starts no program of a test, hands no job to the crew that runs programs, and does not ask its clock.
+-- The suite was run on workers. Where no count of faults rose, and each link carries all that an honest worker says, the
+-- run completed. Its file is read by the workers, and the programs of its tests are theirs: this program reads no file,
+-- starts no program of a test, hands no job to the crew that runs programs, and does not ask its clock.
 pub record RunsOnWorkers (setup : Setup) (j : Journal) (code : ℕ) (links : List EndedLink) (moments : List TurnScene) (old new : Outside) : Type 0 where
   pub run : LinkedRun setup j code links (seen_by_run old) (seen_by_run new) moments
+  pub complete : NothingRose links (seen_by_run old) (seen_by_run new)
+      → All (λ l. ∥ GivesAll setup j l ∥₁) links → IsComplete links j
   pub quiet : new.streams.err ≡ old.streams.err
   pub no_file : new.streams.files ≡ old.streams.files
   pub no_program : new.programs ≡ old.programs
