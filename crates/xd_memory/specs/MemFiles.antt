@@ -1,5 +1,6 @@
 -- What files in memory hold. A choice of this project.
-use Rattle.std.specs.Prelude.{ℕ, List, [], ◌∷◌, Option, Some, None, option_map, if◌then◌else◌}
+use Rattle.std.specs.Prelude.{ℕ, List, Option, option_map}
+use Rattle.std.specs.List.{find}
 use Rattle.std.specs.Str.{bytes_eq}
 use Rattle.xd_memory.specs.declared.mem_file.MemFile.{MemFile}
 
@@ -9,8 +10,7 @@ file_of f = (f.name, f.bytes.items, f.room)
 
 -- the first file of this name
 abbrev pub file_named : List MemFile → List ℕ → Option MemFile
-file_named [] name = None
-file_named (f ∷ fs) name = if bytes_eq f.name name then Some f else file_named fs name
+file_named files name = find (λ f. bytes_eq f.name name) files
 
 -- the bytes under each name: those of the first file of this name
 abbrev pub held_by : List MemFile → List ℕ → Option (List ℕ)

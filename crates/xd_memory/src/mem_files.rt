@@ -25,7 +25,7 @@ impl MemFiles {
         files: Vec<(Text, Blob, u32)>,
         fails: Indices,
     ) -> Result<MemFiles, OutOfMemory>
-        ensures files { IfOk result (λ f. map file_of f.files.items ≡ files) }
+        ensures files { IfOk result (λ f. map file_of f.files.items ≡ files.items) }
         ensures fails { IfOk result (λ f. f.plan.fails ≡ fails) }
         ensures count { IfOk result (λ f. f.plan.faults ≡ 0) }
     {
@@ -40,7 +40,13 @@ impl MemFiles {
     }
 }
 
-fn find_file(files: &[MemFile], name: &Text) -> Option<usize>
+fn find_file<'a>(files: &'a [MemFile], name: &Text) -> Option<&'a MemFile>
+    ensures { option_copied result ≡ file_named files.now name.now }
+{
+    files.iter().find(|file| file.name.is_same(name))
+}
+
+fn place_of(files: &[MemFile], name: &Text) -> Option<usize>
     ensures { result ≡ position (λ f. bytes_eq f.name name.now) files.now }
 {
     files.iter().position(|file| file.name.is_same(name))
@@ -59,6 +65,20 @@ fn copy_within(alloc: Global, bytes: &[u8], limit: u64) -> Result<Blob, FileFaul
     match Blob::of(alloc, bytes) {
         Ok(bytes) => Ok(bytes),
         Err(_) => Err(FileFault::OutOfMemory),
+    }
+}
+
+// Writes to the first file of this name, and says whether there is one with room for the bytes.
+fn write_named(files: &mut [MemFile], name: &Text, bytes: &[u8]) -> bool
+    ensures written { IsTrue result → held_by files.new name.now ≡ Some bytes.now }
+    ensures others { (other : List ℕ) → other ≢ name.now →
+        held_by files.new other ≡ held_by files.old other }
+    ensures room { IsSomeAnd (file_named files.old name.now) (λ f. length bytes.now ≤ f.room) →
+        IsTrue result }
+{
+    match place_of(files, name) {
+        Some(place) => files[place].write(bytes),
+        None => false,
     }
 }
 
@@ -87,7 +107,7 @@ impl Files for MemFiles {
                 self.plan.fault();
                 Err(FileFault::Failed)
             }
-            Some(place) => copy_within(alloc, self.files[place].bytes.as_slice(), limit),
+            Some(file) => copy_within(alloc, file.bytes.as_slice(), limit),
         }
     }
 
@@ -102,9 +122,9 @@ impl Files for MemFiles {
             self.new.plan.faults ≡ self.old.plan.faults }
     {
         self.plan.step()?;
-        match find_file(&self.files, path) {
-            Some(place) if self.files[place].write(bytes) => Ok(()),
-            _ => Err(self.plan.fault()),
+        if write_named(&mut self.files, path, bytes) {
+            return Ok(());
         }
+        Err(self.plan.fault())
     }
 }
