@@ -1,3 +1,4 @@
+pub mod FileLemmas
 pub mod LinkLemmas
 pub mod MemLemmas
 pub mod SourceLemmas

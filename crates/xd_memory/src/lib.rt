@@ -4,6 +4,7 @@
 
 mod mem_children;
 mod mem_clock;
+mod mem_file;
 mod mem_files;
 mod mem_run;
 mod mem_sink;
@@ -12,6 +13,7 @@ mod mem_starter;
 
 pub use mem_children::{MemChild, MemChildren};
 pub use mem_clock::MemClock;
+pub use mem_file::MemFile;
 pub use mem_files::MemFiles;
 pub use mem_run::MemRun;
 pub use mem_sink::MemSink;

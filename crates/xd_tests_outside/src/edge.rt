@@ -112,12 +112,15 @@ fn a_sink_in_memory_fails_at_the_calls_of_its_plan(rt: HostRuntime) -> Result<()
 #[test]
 fn files_in_memory_fail_at_the_calls_of_their_plan(rt: HostRuntime) -> Result<(), Fail> {
     let alloc = rt.alloc();
-    let files = vec![in alloc; (Text::of(alloc, "a")?, Blob::of(alloc, &[1, 2])?)]?;
-    let mut files = MemFiles::new(files, numbers(alloc, &[2])?);
+    let files = vec![in alloc; (Text::of(alloc, "a")?, Blob::of(alloc, &[1, 2])?, 3)]?;
+    let mut files = MemFiles::new(alloc, files, numbers(alloc, &[2])?)?;
     let name = Text::of(alloc, "a")?;
     assert!(rt; is_read(alloc, &mut files, &name, 2, &[1, 2]));
     assert!(rt; is_too_large(alloc, &mut files, &name, 1));
     assert!(rt; has_failed(alloc, &mut files, &name));
+    files.write_file(&name, &[3, 4, 5])?;
+    assert!(rt; files.write_file(&name, &[6, 7, 8, 9]).is_err());
+    assert!(rt; is_read(alloc, &mut files, &name, 3, &[3, 4, 5]));
     Ok(())
 }
 
