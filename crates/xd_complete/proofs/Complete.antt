@@ -40,12 +40,14 @@ use Rattle.xd_group.specs.Fates.{has_link, is_refused, workers_with}
 use Rattle.xd_group.specs.Returned.{RanSo}
 use Rattle.xd_group.specs.Tells.{workers_started}
 use Rattle.xd_group.specs.Unused.{Unused}
+use Rattle.xd_group_peer.specs.EndedLinks.{EndedLink}
+use Rattle.xd_group_peer.specs.ToLink.{call_of}
 use Rattle.xd_group_peer.specs.LinkRun.{Link, LinkRun}
 use Rattle.xd_system.specs.Own.{is_told_to}
 use Rattle.xd_system.proofs.Runs.{member-fold}
 use Rattle.xd_system_messages.specs.Bridge.{CanBeCalled}
 use Rattle.xd_system_messages.specs.Steps.{entries_to}
-use Rattle.xd_dist.specs.Linked.{EndedLink, LinkedRun, LinksSeen, Setup, scene_told}
+use Rattle.xd_dist.specs.Linked.{LinkedRun, LinksSeen, Setup, scene_told}
 use Rattle.xd_complete.specs.Complete.{AnHonestRunCompletes, EndsAsWritten, GivesAll, IsComplete, NothingRose, WrotePiece, WroteRefusal, WroteUnequal, bytes_of_supply, is_loss}
 use Rattle.xd_complete.specs.Says.{SaysAll}
 use Rattle.xd_complete.proofs.Alive.{none-died, taken-member}
@@ -171,7 +173,7 @@ module _ (setup : Setup) (j : Journal) (code : ℕ) (links : List EndedLink) (ol
 
   -- what is known of each link
   record Carries (l : EndedLink) : Type 0 where
-    ran : ∥ RanSo setup.suite settings.mode run.runs.given run.runs.calls refused l.worker l.link ∥₁
+    ran : ∥ RanSo (call_of setup.suite settings.mode) run.runs.given run.runs.calls refused l.worker l.link ∥₁
     all : ∥ GivesAll setup j l ∥₁
     read : l.link.spring.faults ≡ 0
     sent : l.link.writes ≡ 0
@@ -197,11 +199,11 @@ module _ (setup : Setup) (j : Journal) (code : ℕ) (links : List EndedLink) (ol
     its_link : IsFound Carries links w
     its_link = found Carries links w each has_link_listed
 
-    link_ran : (l : EndedLink) → l.worker ≡ w → RanSo setup.suite settings.mode run.runs.given run.runs.calls refused l.worker l.link → RanSo setup.suite settings.mode given run.runs.calls [] w l.link
+    link_ran : (l : EndedLink) → l.worker ≡ w → RanSo (call_of setup.suite settings.mode) run.runs.given run.runs.calls refused l.worker l.link → RanSo (call_of setup.suite settings.mode) given run.runs.calls [] w l.link
     link_ran l its r =
-        subst (λ (u : ℕ). RanSo setup.suite settings.mode given run.runs.calls [] u l.link) its
-        (subst (λ (n : List News). RanSo setup.suite settings.mode n run.runs.calls [] l.worker l.link) given_are
-        (subst (λ (ws : List ℕ). RanSo setup.suite settings.mode run.runs.given run.runs.calls ws l.worker l.link) none_refused r))
+        subst (λ (u : ℕ). RanSo (call_of setup.suite settings.mode) given run.runs.calls [] u l.link) its
+        (subst (λ (n : List News). RanSo (call_of setup.suite settings.mode) n run.runs.calls [] l.worker l.link) given_are
+        (subst (λ (ws : List ℕ). RanSo (call_of setup.suite settings.mode) run.runs.given run.runs.calls ws l.worker l.link) none_refused r))
 
     its_tells : ∥ Tells w its_link.link ∥₁
     its_tells = ∥∥₁_map₂ its_link.holds.ran its_link.holds.all (λ r g. record {

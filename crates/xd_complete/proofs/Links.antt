@@ -14,7 +14,7 @@ use Rattle.xd_group.specs.Few.{count_with}
 use Rattle.xd_group.specs.Tells.{workers_started}
 use Rattle.xd_group.specs.declared.fate.Fate.{Fate}
 use Rattle.xd_group.specs.declared.fate.Fate.TheVariants as fate
-use Rattle.xd_dist.specs.Linked.{EndedLink}
+use Rattle.xd_group_peer.specs.EndedLinks.{EndedLink}
 use Rattle.xd_complete.specs.Complete.{IsAmong}
 use Rattle.xd_complete.proofs.Begun.{is_start_of}
 

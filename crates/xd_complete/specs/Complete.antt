@@ -19,7 +19,8 @@ use Rattle.xd_gateway.specs.News.{IsNewsOf}
 use Rattle.xd_system_messages.specs.Bridge.{CanBeCalled}
 use Rattle.xd_system_messages.specs.Steps.{entries_to}
 use Rattle.xd_complete.specs.Says.{SaysAll}
-use Rattle.xd_dist.specs.Linked.{EndedLink, LinkedRun, LinksSeen, Setup}
+use Rattle.xd_group_peer.specs.EndedLinks.{EndedLink}
+use Rattle.xd_dist.specs.Linked.{LinkedRun, LinksSeen, Setup}
 
 -- No count of faults rose in the run: not that of the starter, of the crew or of the output, and not that of a link's
 -- source or sink.

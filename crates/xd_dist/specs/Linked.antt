@@ -2,8 +2,6 @@
 use Rattle.std.specs.Prelude.{◌≡◌, ℕ, ◌++◌, Bool, true, false, not, List, [], All, length, map, Option, Some, option_map}
 use Rattle.xd_edge.specs.Faults.{Counted, RoseBy}
 use Rattle.xd_edge.specs.Sink.{Sunk}
-use Rattle.xd_link.specs.Source.{Supply}
-use Rattle.xd_link.specs.Spring.{Spring, spring}
 use Rattle.xd_link.specs.Starter.{Begun}
 use Rattle.xd_link.specs.declared.place.Place.{Place}
 use Rattle.xd_journal.specs.declared.entry.Entry.{Entry}
@@ -21,12 +19,12 @@ use Rattle.xd_group.specs.Fates.{has_link, is_linked, is_refused, is_unlinked, w
 use Rattle.xd_group.specs.Few.{RoseFor, count_with}
 use Rattle.xd_group.specs.InStep.{all_started}
 use Rattle.xd_group.specs.Kills.{EndKilledSo}
-use Rattle.xd_group_peer.specs.LinkRun.{Link, link_of}
+use Rattle.xd_group_peer.specs.EndedLinks.{EndedLink}
+use Rattle.xd_group_peer.specs.ToLink.{call_of}
 use Rattle.xd_group.specs.Returned.{RanSo, end_told}
 use Rattle.xd_group.specs.Tells.{marks_told, workers_started}
 use Rattle.xd_group.specs.Unsaid.{SaidUnlinked}
 use Rattle.xd_group.specs.declared.fate.Fate.{Fate}
-use Rattle.xd_group.specs.declared.finish.LinkEnd.{LinkEnd}
 use Rattle.xd_dist.specs.declared.linked.LinkedSuite.{LinkedSuite}
 
 -- what a run is made of: the path of its suite, its settings, and the places of its workers, by slots
@@ -49,21 +47,6 @@ scene_told calls given sunk = record { marks = marks_told calls given; seen = So
 pub record DrivesTo (j : Journal) (calls : List Entry) (given : List News) (old new : Option Sunk) (moments : List TurnScene) : Type 0 where
   pub whole : is_out_fault (stop_of j) ≡ false → (taken : List News) × Whole taken j (scene_told [] [] old) (scene_told calls given new) moments
   pub broken : is_out_fault (stop_of j) ≡ true → (count : ℕ) × (taken : List News) × Broken count taken j (scene_told [] [] old) (scene_told calls given new) moments
-
--- what is seen of a link that was ended: its worker, whether its kill was asked for, its source and its sink
--- Example: gw0's link gave `1` and ended.
-pub record EndedLink : Type 0 where
-  pub worker : ℕ
-  pub killed : Bool
-  pub link : Link
-
--- the link of this worker, by what its source and its sink tell
-abbrev pub ended_link : ℕ → Bool → Spring → Option Sunk → ℕ → EndedLink
-ended_link worker killed s sunk writes = record { worker = worker; killed = killed; link = link_of s sunk writes }
-
--- the links that were ended, by what their sources and their sinks tell
-abbrev pub ended_links : {A B : Type 0} → (A → Option Supply) → (A → Bool) → (A → ℕ) → (B → Option Sunk) → (B → ℕ) → List (LinkEnd A B) → List EndedLink
-ended_links supply is_ended faults sunk writes = map (λ l. ended_link l.worker l.killed (spring (supply l.source) (is_ended l.source) (faults l.source)) (sunk l.sink) (writes l.sink))
 
 -- what is seen of the outside of a run: what the starter tells, the counts of faults of starter and crew, and the output
 pub record LinksSeen : Type 0 where
@@ -92,7 +75,7 @@ pub record RunsLinked (setup : Setup) (j : Journal) (links : List EndedLink) (ol
   pub drives : DrivesTo j calls given old.sunk new.sunk moments
   pub matched : length fates ≡ length (workers_started calls)
   pub all : map (λ l. l.worker) links ≡ workers_with has_link (workers_started calls) fates
-  pub each : All (λ l. ∥ RanSo setup.suite setup.settings.mode given calls (workers_with is_refused (workers_started calls) fates) l.worker l.link ∥₁) links
+  pub each : All (λ l. ∥ RanSo (call_of setup.suite setup.settings.mode) given calls (workers_with is_refused (workers_started calls) fates) l.worker l.link ∥₁) links
   pub begun : AddsBegun setup.places calls fates links old.begun new.begun
   pub killed : All (λ l. ∥ EndKilledSo calls given (workers_with is_refused (workers_started calls) fates) l.worker l.killed l.link.writes ∥₁) links
   pub unlinked : (w : ℕ) → is_listed w (workers_with is_linked (workers_started calls) fates) ≡ false → ∥ SaidUnlinked given w ∥₁

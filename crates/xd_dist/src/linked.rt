@@ -13,14 +13,16 @@ ghost use Rattle.std.specs.List.{list_all};
 ghost use Rattle.xd_starts.specs.Children.{is_killed_and_reaped};
 ghost use Rattle.xd_drive.specs.Moments.{turns_of};
 ghost use Rattle.xd_group.specs.Diaries.{diary_tells};
-ghost use Rattle.xd_dist.specs.Linked.{LinkedRun, RunsLinked, ended_links, links_seen, setup_of};
+ghost use Rattle.xd_dist.specs.Linked.{LinkedRun, RunsLinked, links_seen, setup_of};
+ghost use Rattle.xd_group_peer.specs.EndedLinks.{ended_links};
 
 use std::alloc::Global;
 use std::sync::Wait;
 use xd_crew::Crew;
 use xd_drive::{DrivenRun, drive};
 use xd_edge::{ModeKind, OutOfMemory, Sink, Text};
-use xd_group::{Diary, GatewayHub, Group, LinkEnd};
+use xd_group::{Diary, GatewayHub, Group};
+use xd_group_peer::{LinkEnd, WorkerCall};
 use xd_journal::{Journal, Settings};
 use xd_ledger::Mode;
 use xd_link::{Place, Starter};
@@ -69,12 +71,12 @@ fn run_over<R: Wait, M: Mode, St: Starter, C: Crew<Reader<St::Src>>, O: Sink>(
     requires slots { session.settings.workers ≤ vec_len hub.old.places }
     requires no_calls { noted hub.old.group.diary.calls ≡ [] }
     requires no_news { noted hub.old.group.diary.given ≡ [] }
-    requires mode { hub.old.group.mode ≡ session.settings.mode }
+    requires mode { hub.old.group.call.mode ≡ session.settings.mode }
     ensures journal { IfOk result (λ r. IsJournalOf session.settings r.0.journal) }
     ensures status { IfOk result (λ r. r.0.status ≡ status_of r.0.journal) }
     ensures runs { IfOk result (λ r. RunsLinked
         (record {
-          suite = hub.old.group.suite;
+          suite = hub.old.group.call.suite;
           settings = session.settings;
           places = hub.old.places.items;
         })
@@ -215,7 +217,11 @@ fn run_in<R: Wait, M: Mode, St: Starter, C: Crew<Reader<St::Src>>, O: Sink>(
         places,
     } = suite;
     let session = Session::new(alloc, settings, mode)?;
-    let mut hub = GatewayHub::new(alloc, places, path, settings.mode, starter, crew)?;
+    let call = WorkerCall {
+        suite: path,
+        mode: settings.mode,
+    };
+    let mut hub = GatewayHub::new(alloc, places, call, starter, crew)?;
     let ended = run_over(rt, alloc, session, &mut hub, out);
     end_workers(rt, &mut hub, &ended);
     let GatewayHub {
@@ -234,14 +240,14 @@ fn run_in<R: Wait, M: Mode, St: Starter, C: Crew<Reader<St::Src>>, O: Sink>(
         peers: _,
         spares: _,
         diary: _,
-        suite: _,
-        mode: _,
+        call: _,
         is_whole: _,
     } = group;
     let Links {
         alloc: _,
         mut crew,
         mut desk,
+        room: _,
         handles,
         mut going,
     } = links;

@@ -5,18 +5,10 @@ use crate::gateway_hub::GatewayHub;
 use std::alloc::Global;
 use std::sync::Wait;
 use xd_crew::Crew;
-use xd_edge::{OutOfMemory, Sink};
-use xd_link::{Source, Starter};
+use xd_edge::OutOfMemory;
+use xd_group_peer::LinkEnd;
+use xd_link::Starter;
 use xd_reader::Reader;
-
-/// What a link left: its worker, its two directions, and whether its kill was asked for.
-#[derive(Drop)]
-pub struct LinkEnd<A: Source + Drop, B: Sink + Drop> {
-    pub worker: u32,
-    pub source: A,
-    pub sink: B,
-    pub killed: bool,
-}
 
 impl<St: Starter, C: Crew<Reader<St::Src>>> GatewayHub<St, C> {
     ghost use Rattle.std.specs.Prelude.{◌≡◌, ◌<◌, ◌+◌, ◌++◌, ℕ, All, false, length, IfOk, OnOk, map, option_map};
@@ -98,7 +90,7 @@ impl<St: Starter, C: Crew<Reader<St::Src>>> GatewayHub<St, C> {
         alloc: Global,
     ) -> Result<Vec<LinkEnd<St::Src, St::Snk>>, OutOfMemory>
         ensures runs { IfOk result (λ ends.
-            All (λ l. ∥ RanSo self.old.group.suite self.old.group.mode
+            All (λ l. ∥ RanSo self.old.group.call
             (noted self.old.group.diary.given) (noted self.old.group.diary.calls)
             (workers_with is_refused self.old.group.diary.workers.items
             self.old.group.diary.fates.items) l.worker

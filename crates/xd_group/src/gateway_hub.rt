@@ -10,7 +10,6 @@ ghost use Rattle.xd_trace.specs.Noted.{noted};
 ghost use Rattle.xd_group.specs.Diaries.{diary_tells};
 ghost use Rattle.xd_journal.specs.declared.entry.Entry.{Entry};
 ghost use Rattle.xd_journal.specs.declared.news.News.{News};
-ghost use Rattle.xd_edge.specs.declared.mode.ModeKind.{ModeKind};
 ghost use Rattle.xd_starts.specs.Children.{is_buried, is_killed_and_reaped, starts_told};
 ghost use Rattle.xd_group.specs.InStep.{ChildrenInStep};
 ghost use Rattle.xd_group.specs.Kills.{KilledSo};
@@ -24,15 +23,19 @@ use std::snapshot::Snapshot;
 use std::sync::Wait;
 use xd_crew::Crew;
 use xd_drive::Hub;
-use xd_edge::{ModeKind, OutOfMemory, Text};
+use xd_edge::OutOfMemory;
+use xd_group_peer::WorkerCall;
 use xd_journal::{Entry, News};
 use xd_link::{Place, Starter};
 use xd_links::Links;
 use xd_reader::Reader;
 use xd_starts::{Children, Opened};
 
-/// A hub whose workers are at the end of links. A worker of slot s is started at the place of number s, and called to run
-/// the tests of the suite by the mode. It owns the starter and the crew; who is done with it takes it apart.
+/// How many items the mailbox of a link has room for.
+const ROOM: usize = 8;
+
+/// A hub whose workers are at the end of links. A worker of slot s is started at the place of number s, and called.
+/// It owns the starter and the crew; who is done with it takes it apart.
 pub struct GatewayHub<St: Starter, C: Crew<Reader<St::Src>>> {
     pub places: Vec<Place>,
     pub children: Children<St>,
@@ -48,31 +51,28 @@ pub struct GatewayHub<St: Starter, C: Crew<Reader<St::Src>>> {
 }
 
 impl<St: Starter, C: Crew<Reader<St::Src>>> GatewayHub<St, C> {
-    /// No worker was started. `suite` is the path of the suite as the workers are told it, of at most 65,536 bytes, and the
-    /// mode is not `Local`.
+    /// No worker was started. Each will be called so.
     pub fn new(
         alloc: Global,
         places: Vec<Place>,
-        suite: Text,
-        mode: ModeKind,
+        call: WorkerCall,
         starter: St,
         crew: C,
     ) -> Result<GatewayHub<St, C>, OutOfMemory>
-        requires short { length (encode_utf8_all suite) ≤ 65536 }
+        requires short { length (encode_utf8_all call.suite) ≤ 65536 }
         ensures places { IfOk result (λ h. h.places ≡ places) }
         ensures starter { IfOk result (λ h. (h.children.starter ≡ starter)
             × (h.children.first.value ≡ starter)) }
         ensures crew { IfOk result (λ h. (h.group.links.crew ≡ crew)
             × (h.group.first.value ≡ crew)) }
-        ensures suite { IfOk result (λ h. h.group.suite ≡ suite) }
-        ensures mode { IfOk result (λ h. h.group.mode ≡ mode) }
+        ensures call { IfOk result (λ h. h.group.call ≡ call) }
         ensures calls { IfOk result (λ h. noted h.group.diary.calls ≡ []) }
         ensures given { IfOk result (λ h. noted h.group.diary.given ≡ []) }
         ensures whole { IfOk result (λ h. h.group.is_whole ≡ true) }
     {
         let first = Snapshot::of(&crew);
         let diary = Diary::new(alloc)?;
-        let links = Links::new(alloc, crew)?;
+        let links = Links::new(alloc, crew, ROOM)?;
         Ok(GatewayHub {
             places,
             children: Children::new(alloc, starter),
@@ -82,8 +82,7 @@ impl<St: Starter, C: Crew<Reader<St::Src>>> GatewayHub<St, C> {
                 peers: Vec::new(alloc),
                 spares: Vec::new(alloc),
                 diary,
-                suite,
-                mode,
+                call,
                 is_whole: true,
             },
         })
@@ -115,8 +114,7 @@ impl<St: Starter, C: Crew<Reader<St::Src>>> GatewayHub<St, C> {
         ensures waiting { self.new.group.diary.waiting ≡ self.old.group.diary.waiting }
         ensures calls { noted self.new.group.diary.calls ≡ noted self.old.group.diary.calls }
         ensures whole { OnOk result (self.new.group.is_whole ≡ self.old.group.is_whole) }
-        ensures made { (self.new.group.suite ≡ self.old.group.suite)
-            × (self.new.group.mode ≡ self.old.group.mode) }
+        ensures made { self.new.group.call ≡ self.old.group.call }
         ensures first { (self.new.places ≡ self.old.places)
             × (self.new.children.first ≡ self.old.children.first)
             × (self.new.group.first ≡ self.old.group.first) }
@@ -141,8 +139,7 @@ impl<St: Starter, C: Crew<Reader<St::Src>>> GatewayHub<St, C> {
         ensures waiting { self.new.group.diary.waiting ≡ self.old.group.diary.waiting }
         ensures calls { noted self.new.group.diary.calls ≡ noted self.old.group.diary.calls }
         ensures whole { OnOk result (self.new.group.is_whole ≡ self.old.group.is_whole) }
-        ensures made { (self.new.group.suite ≡ self.old.group.suite)
-            × (self.new.group.mode ≡ self.old.group.mode) }
+        ensures made { self.new.group.call ≡ self.old.group.call }
         ensures first { (self.new.places ≡ self.old.places)
             × (self.new.children.first ≡ self.old.children.first)
             × (self.new.group.first ≡ self.old.group.first) }
@@ -166,11 +163,11 @@ impl<St: Starter, C: Crew<Reader<St::Src>>> GatewayHub<St, C> {
 }
 
 impl<St: Starter, C: Crew<Reader<St::Src>>> Hub for GatewayHub<St, C> {
-    type Made = (Text, ModeKind, Vec<Place>, Snapshot<St>, Snapshot<C>);
+    type Made = (WorkerCall, Vec<Place>, Snapshot<St>, Snapshot<C>);
 
-    ghost made = { λ h. (h.group.suite, h.group.mode, h.places, h.children.first, h.group.first) };
+    ghost made = { λ h. (h.group.call, h.places, h.children.first, h.group.first) };
 
-    ghost slots = { λ m. vec_len m.2 };
+    ghost slots = { λ m. vec_len m.1 };
 
     ghost marks = { λ h w. marks_told (noted h.group.diary.calls) (noted h.group.diary.given) w };
 
@@ -201,8 +198,7 @@ impl<St: Starter, C: Crew<Reader<St::Src>>> Hub for GatewayHub<St, C> {
             × (self.new.children.first ≡ self.old.children.first)
             × (self.new.group.first ≡ self.old.group.first) }
         ensures whole { OnOk result (self.new.group.is_whole ≡ self.old.group.is_whole) }
-        ensures made { (self.new.group.suite ≡ self.old.group.suite)
-            × (self.new.group.mode ≡ self.old.group.mode) }
+        ensures made { self.new.group.call ≡ self.old.group.call }
     {
         let number = self.children.children.len();
         match self.children.start(alloc, &self.places[slot as usize])? {
@@ -236,8 +232,7 @@ impl<St: Starter, C: Crew<Reader<St::Src>>> Hub for GatewayHub<St, C> {
             × (self.new.children.first ≡ self.old.children.first)
             × (self.new.group.first ≡ self.old.group.first) }
         ensures whole { OnOk result (self.new.group.is_whole ≡ self.old.group.is_whole) }
-        ensures made { (self.new.group.suite ≡ self.old.group.suite)
-            × (self.new.group.mode ≡ self.old.group.mode) }
+        ensures made { self.new.group.call ≡ self.old.group.call }
     {
         let cut = self.group.say(alloc, worker, order)?;
         self.children.cut(cut);
@@ -256,8 +251,7 @@ impl<St: Starter, C: Crew<Reader<St::Src>>> Hub for GatewayHub<St, C> {
             × (self.new.children.first ≡ self.old.children.first)
             × (self.new.group.first ≡ self.old.group.first) }
         ensures whole { self.new.group.is_whole ≡ self.old.group.is_whole }
-        ensures made { (self.new.group.suite ≡ self.old.group.suite)
-            × (self.new.group.mode ≡ self.old.group.mode) }
+        ensures made { self.new.group.call ≡ self.old.group.call }
     {
         let cut = self.group.kill(worker);
         self.children.cut(cut);
@@ -281,8 +275,7 @@ impl<St: Starter, C: Crew<Reader<St::Src>>> Hub for GatewayHub<St, C> {
             × (self.new.children.first ≡ self.old.children.first)
             × (self.new.group.first ≡ self.old.group.first) }
         ensures whole { OnOk result (self.new.group.is_whole ≡ self.old.group.is_whole) }
-        ensures made { (self.new.group.suite ≡ self.old.group.suite)
-            × (self.new.group.mode ≡ self.old.group.mode) }
+        ensures made { self.new.group.call ≡ self.old.group.call }
     {
         if let Some(news) = self.group.next_unlinked() {
             return Ok(news);

@@ -18,8 +18,8 @@ use std::alloc::Global;
 use std::snapshot::Snapshot;
 use std::sync::Wait;
 use xd_crew::Crew;
-use xd_edge::{ModeKind, OutOfMemory, Sink, Text};
-use xd_group_peer::Peer;
+use xd_edge::{OutOfMemory, Sink};
+use xd_group_peer::{Peer, WorkerCall};
 use xd_journal::{Entry, News, What};
 use xd_link::Source;
 use xd_links::Links;
@@ -35,12 +35,11 @@ pub struct Group<S: Source + Drop, N: Sink + Drop, C: Crew<Reader<S>>> {
     /// The links whose readers the crew refused, by the numbers of the starts.
     pub spares: Vec<Option<Spare<S, N>>>,
     pub diary: Diary,
-    pub suite: Text,
-    pub mode: ModeKind,
+    pub call: WorkerCall,
     pub is_whole: bool,
-    ghost short: { length (encode_utf8_all suite) ≤ 65536 },
+    ghost short: { length (encode_utf8_all call.suite) ≤ 65536 },
     ghost kept: { is_whole ≡ true →
-        ∥ Kept suite mode (news_of (mails links.desk)) (noted diary.calls)
+        ∥ Kept call (news_of (mails links.desk)) (noted diary.calls)
         (noted diary.given) diary.workers.items (pages_of peers.items) ∥₁ },
     ghost few: { is_whole ≡ true →
         RoseFor (count_with is_refused diary.fates.items) (C.faults first.value)
@@ -97,7 +96,7 @@ impl<S: Source + Drop, N: Sink + Drop, C: Crew<Reader<S>>> Group<S, N, C> {
         ensures over { OnErr result (self.new.is_whole ≡ false) }
         ensures cut { IfOk result (λ cut.
             Loses cut (losses_of self.old.peers.items) (losses_of self.new.peers.items)) }
-        ensures made { (self.new.suite ≡ self.old.suite) × (self.new.mode ≡ self.old.mode)
+        ensures made { (self.new.call ≡ self.old.call)
             × (self.new.first ≡ self.old.first) }
     {
         if !self.is_whole {
@@ -131,7 +130,7 @@ impl<S: Source + Drop, N: Sink + Drop, C: Crew<Reader<S>>> Group<S, N, C> {
         ensures over { OnErr result (self.new.is_whole ≡ false) }
         ensures cut { IfOk result (λ r.
             Loses r.cut (losses_of self.old.peers.items) (losses_of self.new.peers.items)) }
-        ensures made { (self.new.suite ≡ self.old.suite) × (self.new.mode ≡ self.old.mode)
+        ensures made { (self.new.call ≡ self.old.call)
             × (self.new.first ≡ self.old.first) }
     {
         if !self.is_whole {
@@ -162,7 +161,7 @@ impl<S: Source + Drop, N: Sink + Drop, C: Crew<Reader<S>>> Group<S, N, C> {
             slice_get self.old.diary.workers.items k ≡ Some worker → ⊥) }
         ensures whole { self.new.is_whole ≡ self.old.is_whole }
         ensures peers { self.new.peers ≡ self.old.peers }
-        ensures made { (self.new.suite ≡ self.old.suite) × (self.new.mode ≡ self.old.mode)
+        ensures made { (self.new.call ≡ self.old.call)
             × (self.new.first ≡ self.old.first) }
         ensures starts { SameStarts self.old.diary self.new.diary }
     {
@@ -184,7 +183,7 @@ impl<S: Source + Drop, N: Sink + Drop, C: Crew<Reader<S>>> Group<S, N, C> {
         ensures starts { SameStarts self.old.diary self.new.diary }
         ensures whole { self.new.is_whole ≡ self.old.is_whole }
         ensures peers { self.new.peers ≡ self.old.peers }
-        ensures made { (self.new.suite ≡ self.old.suite) × (self.new.mode ≡ self.old.mode)
+        ensures made { (self.new.call ≡ self.old.call)
             × (self.new.first ≡ self.old.first) }
     {
         if !self.is_whole {

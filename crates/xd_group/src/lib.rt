@@ -14,7 +14,6 @@ mod spare;
 
 pub use diary::Diary;
 pub use fate::Fate;
-pub use finish::LinkEnd;
 pub use gateway_hub::GatewayHub;
 pub use group::Group;
 pub use spare::Spare;

@@ -5,6 +5,7 @@ use Rattle.std.specs.Str.{chars, encode_utf8_all}
 use Rattle.std.proofs.lemmas.Bool.{eq-eqb}
 use Rattle.std.proofs.lemmas.Map.Entries.{length-keys_of}
 use Rattle.xd_edge.specs.declared.mode.ModeKind.{ModeKind}
+use Rattle.xd_group_peer.specs.declared.worker_call.WorkerCall.{WorkerCall}
 use Rattle.xd_edge.specs.declared.mode.ModeKind.TheVariants as mode
 use Rattle.xd_edge.specs.Sink.{Sunk}
 use Rattle.xd_value.specs.Tree.{Tree, Pairs, text, pair, no_pairs}
@@ -69,15 +70,15 @@ call_by : (s : Side) (d : Result (List ℕ) DumpFault) (b : List ℕ) → d ≡ 
 call_by s d b e f n = ap (λ (x : Result (List ℕ) DumpFault). exec_by x s) e ∙ (ap (λ (o : _). opening_wanted o (exec_message (next_of s) b)) f ∙ ap (λ (i : ℕ). Ok (exec_message i b)) n)
 
 module _ {K : Type 0} where
-  pub call_wanted : (g : Gateway K) (name : List ℕ) (kwargs : Pairs) (suite : List ℕ) (m : ModeKind) → IsNew g → length (encode_utf8_all suite) ≤ 65536 → name ≡ codes "run_tests" → kwargs ≡ call_kwargs suite m → exec_wanted name kwargs (side_of g) ≡ Ok (call_message suite m)
-  call_wanted g name kwargs suite m new short n k =
+  pub call_wanted : (g : Gateway K) (name : List ℕ) (kwargs : Pairs) (call : WorkerCall) → IsNew g → length (encode_utf8_all call.suite) ≤ 65536 → name ≡ codes "run_tests" → kwargs ≡ call_kwargs call → exec_wanted name kwargs (side_of g) ≡ Ok (call_message call)
+  call_wanted g name kwargs call new short n k =
       let s = side_of g in
       let t = new.channels in
       let next : next_of s ≡ 1 = ap (λ (x : ChannelTable). x.next) t in
       let none = open_none s (ap (λ (x : ChannelTable). x.finished) t) (no_entries s (λ c. ap (λ (x : ChannelTable). x.slot c) t)) next in
-      let all : dumped (call_tree name kwargs) ≡ Ok (canonical (run_tests_call suite (mode_text m))) =
-      ap (λ (x : List ℕ). dumped (call_tree x kwargs)) n ∙ (ap (λ (x : Pairs). dumped (call_tree (codes "run_tests") x)) k ∙ call_dumped suite (mode_text m) short (mode_short m)) in
-      call_by s (dumped (call_tree name kwargs)) (canonical (run_tests_call suite (mode_text m))) all none next
+      let all : dumped (call_tree name kwargs) ≡ Ok (canonical (run_tests_call call.suite (mode_text call.mode))) =
+      ap (λ (x : List ℕ). dumped (call_tree x kwargs)) n ∙ (ap (λ (x : Pairs). dumped (call_tree (codes "run_tests") x)) k ∙ call_dumped call.suite (mode_text call.mode) short (mode_short call.mode)) in
+      call_by s (dumped (call_tree name kwargs)) (canonical (run_tests_call call.suite (mode_text call.mode))) all none next
 
 pub as_wanted : (wanted : Wanted) (m n : MessageView) (a b : GatewaySink) → wanted ≡ Ok m → wanted ≡ Ok n → PrintsBytes (frame n) a b → PrintsBytes (frame m) a b
 as_wanted wanted m n a b e f p = let same : Ok n ≡ Ok m = sym f ∙ e in let is : n ≡ m = cc same in subst (λ (x : MessageView). PrintsBytes (frame x) a b) is p
@@ -131,14 +132,14 @@ module _ {K : Type 0} where
 
 -- ---- keyword arguments
 
-pub kwargs_are : (items : List (List ℕ × Value)) (k l : List ℕ) (v w : Value) (suite : List ℕ) (m : ModeKind) → items ≡ (k, v) ∷ (l, w) ∷ [] → k ≡ chars (codes "suite") → view v ≡ text suite → l ≡ chars (codes "dist") → view w ≡ text (mode_text m) → kwargs_of items ≡ call_kwargs suite m
-kwargs_are items k l v w suite m is a b c d =
+pub kwargs_are : (items : List (List ℕ × Value)) (k l : List ℕ) (v w : Value) (call : WorkerCall) → items ≡ (k, v) ∷ (l, w) ∷ [] → k ≡ chars (codes "suite") → view v ≡ text call.suite → l ≡ chars (codes "dist") → view w ≡ text (mode_text call.mode) → kwargs_of items ≡ call_kwargs call
+kwargs_are items k l v w call is a b c d =
     let first : k ≡ codes "suite" = a ∙ chars_word (codes "suite") refl in
     let second : l ≡ codes "dist" = c ∙ chars_word (codes "dist") refl in
     ap kwargs_of is ∙ (ap (λ (x : List ℕ). pair (text x) (view v) (pair (text l) (view w) no_pairs)) first
     ∙ (ap (λ (x : Tree). pair (text (codes "suite")) x (pair (text l) (view w) no_pairs)) b
-    ∙ (ap (λ (x : List ℕ). pair (text (codes "suite")) (text suite) (pair (text x) (view w) no_pairs)) second
-    ∙ ap (λ (x : Tree). pair (text (codes "suite")) (text suite) (pair (text (codes "dist")) x no_pairs)) d)))
+    ∙ (ap (λ (x : List ℕ). pair (text (codes "suite")) (text call.suite) (pair (text x) (view w) no_pairs)) second
+    ∙ ap (λ (x : Tree). pair (text (codes "suite")) (text call.suite) (pair (text (codes "dist")) x no_pairs)) d)))
 
 -- a write that failed is no lack of memory
 pub not_memory : (f : GatewayFault) (r : Result (Unit {0}) GatewayFault) → f ≡ SendFault → r ≡ Err f → r ≡ Err OutOfMemory → ⊥

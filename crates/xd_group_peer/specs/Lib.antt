@@ -1,3 +1,4 @@
+pub mod EndedLinks
 pub mod Ends
 pub mod Heard
 pub mod LinkRun

@@ -3,6 +3,7 @@
 use Rattle.std.specs.Prelude.{ℕ, Bool, true, false, List, [], ◌∷◌, ◌++◌, Option, Some, None, option_and_then, Result, Ok, Err, codes}
 use Rattle.std.specs.List.{list_any, filter_map}
 use Rattle.xd_edge.specs.declared.mode.ModeKind.{ModeKind}
+use Rattle.xd_group_peer.specs.declared.worker_call.WorkerCall.{WorkerCall}
 use Rattle.xd_value.specs.Tree.{Pairs, text, pair, no_pairs}
 use Rattle.xd_value.specs.Canonical.{canonical, dumped}
 use Rattle.xd_value.specs.declared.writing.DumpFault.{DumpFault}
@@ -15,13 +16,17 @@ use Rattle.xd_commands.specs.Limits.{run_tests_call}
 use Rattle.xd_gateway.specs.Calls.{exec_message, item_message, terminate_message}
 use Rattle.xd_report_phrases.specs.Names.{mode_text}
 
+-- a call with the path of this suite, by this mode
+abbrev pub call_of : List ℕ → ModeKind → WorkerCall
+call_of suite mode = record { suite = suite; mode = mode }
+
 -- the keyword arguments of `run_tests`: the path of the suite, and the mode's word
-abbrev pub call_kwargs : List ℕ → ModeKind → Pairs
-call_kwargs suite mode = pair (text (codes "suite")) (text suite) (pair (text (codes "dist")) (text (mode_text mode)) no_pairs)
+abbrev pub call_kwargs : WorkerCall → Pairs
+call_kwargs call = pair (text (codes "suite")) (text call.suite) (pair (text (codes "dist")) (text (mode_text call.mode)) no_pairs)
 
 -- the call of `run_tests`, on channel 1
-abbrev pub call_message : List ℕ → ModeKind → MessageView
-call_message suite mode = exec_message 1 (canonical (run_tests_call suite (mode_text mode)))
+abbrev pub call_message : WorkerCall → MessageView
+call_message call = exec_message 1 (canonical (run_tests_call call.suite (mode_text call.mode)))
 
 -- a value's message on channel 1, where it has a payload; each order of a run has one
 abbrev pub payload_message : Result (List ℕ) DumpFault → Option MessageView
@@ -48,5 +53,5 @@ terminate_once true = terminate_message ∷ []
 terminate_once false = []
 
 -- the messages to a worker that took these orders and gave these news
-abbrev pub to_link : List ℕ → ModeKind → List Entry → List What → List MessageView
-to_link suite mode orders news = call_message suite mode ∷ (filter_map order_message orders ++ terminate_once (has_left news))
+abbrev pub to_link : WorkerCall → List Entry → List What → List MessageView
+to_link call orders news = call_message call ∷ (filter_map order_message orders ++ terminate_once (has_left news))

@@ -17,6 +17,7 @@ ghost use Rattle.xd_report_phrases.specs.Names.{mode_text};
 ghost use Rattle.xd_group_peer.specs.inner.Orders.{WritesOrder};
 ghost use Rattle.xd_group_peer.specs.ToLink.{call_kwargs, call_message, order_message};
 
+use crate::worker_call::WorkerCall;
 use std::alloc::Global;
 use xd_commands::word_value;
 use xd_edge::{ModeKind, OutOfMemory, Sink, Text};
@@ -53,17 +54,13 @@ fn suite_value(suite: &Text) -> Result<Value, OutOfMemory>
 }
 
 // The keyword arguments of `run_tests`.
-fn kwargs_of_call(
-    alloc: Global,
-    suite: &Text,
-    mode: ModeKind,
-) -> Result<Vec<(Text, Value)>, OutOfMemory>
-    ensures { IfOk result (λ ks. kwargs_of ks.items ≡ call_kwargs suite.now mode) }
+fn kwargs_of_call(alloc: Global, call: &WorkerCall) -> Result<Vec<(Text, Value)>, OutOfMemory>
+    ensures { IfOk result (λ ks. kwargs_of ks.items ≡ call_kwargs call.now) }
 {
     let suite_key = Text::of(alloc, "suite")?;
-    let suite = suite_value(suite)?;
+    let suite = suite_value(&call.suite)?;
     let dist_key = Text::of(alloc, "dist")?;
-    let dist = dist_value(alloc, mode)?;
+    let dist = dist_value(alloc, call.mode)?;
     let kwargs = vec![in alloc; (suite_key, suite), (dist_key, dist)]?;
     Ok(kwargs)
 }
@@ -72,18 +69,17 @@ fn kwargs_of_call(
 pub fn call_worker<N: Sink + Drop>(
     alloc: Global,
     gateway: &mut Gateway<N>,
-    suite: &Text,
-    mode: ModeKind,
+    call: &WorkerCall,
 ) -> Result<bool, OutOfMemory>
-    requires short { length (encode_utf8_all suite.now) ≤ 65536 }
+    requires short { length (encode_utf8_all call.now.suite) ≤ 65536 }
     requires new { IsNew gateway.old }
     ensures lost { IfOk result (λ b. b ≡ is_broken gateway.new) }
     ensures prints { OnOk result
-        (PrintsOn N.sunk N.faults gateway.old gateway.new (frame (call_message suite.now mode))) }
+        (PrintsOn N.sunk N.faults gateway.old gateway.new (frame (call_message call.now))) }
     ensures stands { OnOk result (StandsForHeard gateway.new []) }
 {
     let name = Text::of(alloc, "run_tests")?;
-    let kwargs = kwargs_of_call(alloc, suite, mode)?;
+    let kwargs = kwargs_of_call(alloc, call)?;
     match gateway.remote_exec(&name, kwargs) {
         Ok(_number) => Ok(false),
         Err(GatewayFault::SendFault) => Ok(true),

@@ -3,6 +3,10 @@
 #![tactic(auto)]
 
 mod calling;
+mod link_end;
 mod peer;
+mod worker_call;
 
+pub use link_end::LinkEnd;
 pub use peer::{HeardNews, Peer};
+pub use worker_call::WorkerCall;

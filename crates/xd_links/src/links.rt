@@ -1,5 +1,5 @@
 // Several links over one desk.
-ghost use Rattle.std.specs.Prelude.{◌≡◌, ℕ, [], false, Some, map, slice_get, slice_set, if◌then◌else◌};
+ghost use Rattle.std.specs.Prelude.{◌≡◌, ◌≤◌, ℕ, [], false, Some, map, slice_get, slice_set, if◌then◌else◌};
 ghost use Rattle.xd_link.specs.Source.{Supply};
 ghost use Rattle.xd_links.specs.Links.{ring_of_mail, ring_of_link, sources_of};
 ghost use Rattle.xd_links.specs.Runs.{is_stop_news, is_going, news_of};
@@ -13,18 +13,18 @@ use xd_link::Source;
 use xd_post::{Bell, Desk, mailbox};
 use xd_reader::{LinkNews, Reader, ReaderEnd};
 
-/// The room of a link's mailbox; its reader sleeps while it is full.
-const ROOM: usize = 8;
-
 /// Several links, each read by a job of the crew. They are numbered from 0 in the order in which they were opened; a number
 /// may have no link.
 pub struct Links<S: Source + Drop, C: Crew<Reader<S>>> {
     pub alloc: Global,
     pub crew: C,
     pub desk: Desk<LinkNews>,
+    /// How many items a link's mailbox has room for; its reader sleeps while it is full.
+    pub room: usize,
     pub handles: Vec<Option<C::Handle>>,
     /// Of each number whether more may come of its link: it is not closed, and its end was not taken.
     pub going: Vec<bool>,
+    ghost roomy: { 1 ≤ room },
     ghost rings: { map ring_of_mail (mails desk) ≡ map (ring_of_link C.job_of) handles.items },
     ghost fresh: { (k : ℕ) (source : S) (s : Supply) →
         slice_get (sources_of C.job_of handles.items) k ≡ Some (Some source) →
@@ -89,7 +89,9 @@ impl<S: Source + Drop, C: Crew<Reader<S>>> Links<S, C> {
     ghost use Rattle.xd_link.specs.Spring.{spring};
     ghost use Rattle.xd_reader.specs.declared.news.LinkNews.{LinkNews};
 
-    pub fn new(alloc: Global, crew: C) -> Result<Links<S, C>, OutOfMemory>
+    /// No link was opened. A link's mailbox has room for that many items.
+    pub fn new(alloc: Global, crew: C, room: usize) -> Result<Links<S, C>, OutOfMemory>
+        requires { 1 ≤ room }
         ensures none { IfOk result (λ r. (news_of (mails r.desk) ≡ [])
             × (sources_of C.job_of r.handles.items ≡ [])) }
         ensures crew { IfOk result (λ r. r.crew ≡ crew) }
@@ -99,6 +101,7 @@ impl<S: Source + Drop, C: Crew<Reader<S>>> Links<S, C> {
             alloc,
             crew,
             desk: Desk::new(alloc, bell),
+            room,
             handles: Vec::new(alloc),
             going: Vec::new(alloc),
         })
@@ -142,7 +145,7 @@ impl<S: Source + Drop, C: Crew<Reader<S>>> Links<S, C> {
     {
         self.handles.reserve(1)?;
         self.going.reserve(1)?;
-        let (sender, inbox) = mailbox(self.alloc, ROOM, self.desk.bell())?;
+        let (sender, inbox) = mailbox(self.alloc, self.room, self.desk.bell())?;
         let number = self.desk.add(inbox)?;
         match self
             .crew

@@ -15,7 +15,7 @@ use Rattle.xd_worker_serve.specs.Ends.{Closes, Scene, Served}
 use Rattle.xd_worker_serve.specs.Spoke.{Speaks}
 use Rattle.xd_link.specs.Spring.{Spring}
 use Rattle.xd_worker_serve.proofs.Completing.{calm, complete, goes_wrong}
-use Rattle.xd_dist.specs.Linked.{EndedLink}
+use Rattle.xd_group_peer.specs.EndedLinks.{EndedLink}
 use Rattle.xd_top.specs.Outside.{Workplace}
 use Rattle.xd_top.specs.Worker.{DidServe, ServedLink, ServesLink, all_bytes, served_scene, unwritten}
 

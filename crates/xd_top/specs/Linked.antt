@@ -2,7 +2,8 @@
 use Rattle.std.specs.Prelude.{ℕ, ◌≡◌, List, Option, Some, None}
 use Rattle.xd_journal.specs.declared.journal.Journal.{Journal}
 use Rattle.xd_drive.specs.Seen.{TurnScene}
-use Rattle.xd_dist.specs.Linked.{EndedLink, LinkedRun, LinksSeen, Setup, links_seen}
+use Rattle.xd_group_peer.specs.EndedLinks.{EndedLink}
+use Rattle.xd_dist.specs.Linked.{LinkedRun, LinksSeen, Setup, links_seen}
 use Rattle.xd_top.specs.Outside.{Outside}
 
 -- what a run on workers sees of the outside

@@ -13,7 +13,7 @@ use Rattle.xd_top.specs.Named.{DidLocal, around}
 use Rattle.xd_drive.specs.Moments.{turns_of}
 use Rattle.xd_group.specs.declared.diary.Diary.{Diary}
 use Rattle.xd_group.specs.Diaries.{diary_tells}
-use Rattle.xd_dist.specs.Linked.{EndedLink}
+use Rattle.xd_group_peer.specs.EndedLinks.{EndedLink}
 use Rattle.xd_top.specs.Outside.{Outside, workplace}
 use Rattle.xd_top.specs.Refusal.{Refuses}
 use Rattle.xd_top.specs.Wire.{DidWire}

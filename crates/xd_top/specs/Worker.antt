@@ -10,7 +10,7 @@ use Rattle.xd_link.specs.declared.place.Place.{Place}
 use Rattle.xd_worker_serve.specs.Complete.{AreGood, AreStill, GoesWrong, IsCalm}
 use Rattle.xd_worker_serve.specs.Ends.{Scene, Served, scene}
 use Rattle.xd_link.specs.Spring.{Spring}
-use Rattle.xd_dist.specs.Linked.{EndedLink}
+use Rattle.xd_group_peer.specs.EndedLinks.{EndedLink}
 use Rattle.xd_top.specs.Outside.{Workplace}
 
 -- all the bytes of a link that had given none before

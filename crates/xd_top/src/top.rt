@@ -1,6 +1,6 @@
 // The top call.
 ghost use Rattle.std.specs.Prelude.{◌≡◌, [], false, IfNone, IfOk};
-ghost use Rattle.xd_dist.specs.Linked.{ended_links};
+ghost use Rattle.xd_group_peer.specs.EndedLinks.{ended_links};
 ghost use Rattle.xd_edge.specs.Clock.{ticking};
 ghost use Rattle.xd_top.specs.Named.{tests_seen};
 ghost use Rattle.xd_top.specs.Top.{Did, has_links, turns_seen};
@@ -15,7 +15,8 @@ use std::sync::Wait;
 use xd_crew::Crew;
 use xd_dist::{LinkedSuite, run_linked};
 use xd_edge::{Children, Clock, Files, OutOfMemory, Sink, Text};
-use xd_group::{Diary, LinkEnd};
+use xd_group::Diary;
+use xd_group_peer::LinkEnd;
 use xd_journal::Journal;
 use xd_link::{Place, Starter};
 use xd_reader::Reader;

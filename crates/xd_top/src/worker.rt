@@ -1,6 +1,6 @@
 // The commands that serve one link as a worker.
 ghost use Rattle.std.specs.Prelude.{◌≡◌, None, IfOk};
-ghost use Rattle.xd_dist.specs.Linked.{ended_links};
+ghost use Rattle.xd_group_peer.specs.EndedLinks.{ended_links};
 ghost use Rattle.xd_edge.specs.Clock.{ticking};
 ghost use Rattle.xd_top.specs.Worker.{DidServe};
 
@@ -9,7 +9,7 @@ use std::alloc::Global;
 use std::sync::Wait;
 use xd_crew::Crew;
 use xd_edge::{Children, Clock, Files, OutOfMemory};
-use xd_group::LinkEnd;
+use xd_group_peer::LinkEnd;
 use xd_link::{Place, StartFault, Starter};
 use xd_reader::Reader;
 use xd_worker_runner::Runner;

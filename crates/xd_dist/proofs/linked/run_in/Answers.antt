@@ -1,7 +1,8 @@
 use Rattle.std.proofs.Common.{◌≡◌, refl}
 use Rattle.xd_drive.specs.Moments.{turns_of}
 use Rattle.xd_group.specs.Diaries.{diary_tells}
-use Rattle.xd_dist.specs.Linked.{Setup, ended_links, links_seen, setup_of}
+use Rattle.xd_group_peer.specs.EndedLinks.{ended_links}
+use Rattle.xd_dist.specs.Linked.{Setup, links_seen, setup_of}
 use Rattle.xd_dist.proofs.Facts.{by_three}
 use Rattle.xd_dist.proofs.Linking.{linked_run, seen_as}
 use Rattle.xd_dist.proofs.linked.run_in.Goals as goal
@@ -10,8 +11,8 @@ pub returns-clause-ran : goal.returns-clause-ran
 returns-clause-ran g c =
     let hub = c.in_ok-hub.ensures in
     let run = c.run_over-ended.ensures in
-    let now : Setup = record { suite = c.in_ok-hub.hub.group.suite; settings = c.in_ok-session.session.settings; places = c.in_ok-hub.hub.places.items } in
-    let same : now ≡ setup_of c.args.suite = rw (hub.suite, c.in_ok-session.ensures.settings, hub.places) refl in
+    let now : Setup = record { suite = c.in_ok-hub.hub.group.call.suite; settings = c.in_ok-session.session.settings; places = c.in_ok-hub.hub.places.items } in
+    let same : now ≡ setup_of c.args.suite = rw (hub.call, c.in_ok-session.ensures.settings, hub.places) refl in
     by_three c.end_of.result c.end_of.ensures.ended c.end_of.ensures.starter c.end_of.ensures.crew
     (λ e ended starter crew. linked_run c.run_over-ended.result
     (λ links. ended_links g.St.Src.Source.supply g.St.Src.Source.is_ended g.St.Src.Source.faults g.St.Snk.Sink.sunk g.St.Snk.Sink.faults links.items)

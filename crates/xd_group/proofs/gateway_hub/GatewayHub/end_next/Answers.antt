@@ -10,7 +10,7 @@ use Rattle.xd_group.specs.Fates.{is_refused, workers_with}
 use Rattle.xd_group.specs.Kills.{EndKilledSo}
 use Rattle.xd_group_peer.specs.LinkRun.{link_of}
 use Rattle.xd_group.specs.Returned.{RanSo, end_told}
-use Rattle.xd_group.specs.declared.finish.LinkEnd.{LinkEnd}
+use Rattle.xd_group_peer.specs.declared.link_end.LinkEnd.{LinkEnd}
 use Rattle.xd_group.proofs.Ending.{some_of}
 use Rattle.xd_group.proofs.FateFacts.{asked_next, asked_past, changed_linked, child_there, no_child, with_link, without_link, worker_there}
 use Rattle.xd_group.proofs.Killing.{end_killed, kills_reaped}
@@ -34,7 +34,7 @@ returns-in_ok-push-clause-ended g c b going was =
     let at = some_of _ c.end_link-left.result _ c.in-Some.is left.worker in
     let kid = child_there cs diary.fates.items c.args.number fate.0 was.linked fate.1 link in
     let refused = workers_with is_refused diary.workers.items diary.fates.items in
-    let Runs : LinkEnd g.row.St-Src.Denot g.row.St-Snk.Denot → Type 0 = λ l. ∥ RanSo b.suite b.mode (noted diary.given) (noted diary.calls) refused l.worker (link_of (spring (g.St.Src.Source.supply l.source) (g.St.Src.Source.is_ended l.source) (g.St.Src.Source.faults l.source)) (g.St.Snk.Sink.sunk l.sink) (g.St.Snk.Sink.faults l.sink)) ∥₁ in
+    let Runs : LinkEnd g.row.St-Src.Denot g.row.St-Snk.Denot → Type 0 = λ l. ∥ RanSo b.call (noted diary.given) (noted diary.calls) refused l.worker (link_of (spring (g.St.Src.Source.supply l.source) (g.St.Src.Source.is_ended l.source) (g.St.Src.Source.faults l.source)) (g.St.Snk.Sink.sunk l.sink) (g.St.Snk.Sink.faults l.sink)) ∥₁ in
     let Killed : LinkEnd g.row.St-Src.Denot g.row.St-Snk.Denot → Type 0 = λ l. ∥ EndKilledSo (noted diary.calls) (noted diary.given) refused l.worker l.killed (g.St.Snk.Sink.faults l.sink) ∥₁ in
     let ran : Runs end = some_of _ c.end_link-left.result _ c.in-Some.is (left.runs b going) in
     let killed : Killed end = ∥∥₁_map₂ going.kept was.kills

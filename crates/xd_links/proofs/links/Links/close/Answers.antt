@@ -27,6 +27,7 @@ close_with-requires g c =
 pub invariant_of-self : goal.invariant_of-self
 invariant_of-self g c =
     record {
+      roomy = c.args.self.now.roomy;
       rings =
           rings_closed g.C.Crew.job_of (mails c.args.self.now.desk) (mails c.close_with.new.self) c.args.number c.args.self.now.handles.items c.take.new.self
           c.close_with.ensures.closed c.take.ensures.after c.args.self.now.rings;

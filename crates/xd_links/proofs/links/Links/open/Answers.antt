@@ -11,7 +11,7 @@ pub invariant_of-self-in-Err : goal.invariant_of-self-in-Err
 invariant_of-self-in-Err g c =
     let after : c.push_reserved-in-Err.new.self.items ≡ c.args.self.now.handles.items ++ None ∷ [] = search rules in
     let over : c.push_reserved-in-Err-2.new.self.items ≡ c.args.self.now.going.items ++ false ∷ [] = search rules in
-    record { rings = rings_refused g.C.Crew.job_of _ _ _ _ _ _ _ c.in_ok-number.ensures.added c.in_ok-number.ensures.number c.close_with.ensures.closed c.args.self.now.rings after; fresh = fresh_more g.C.Crew.job_of g.S.Source.supply c.args.self.now.handles.items c.push_reserved-in-Err.new.self.items None after tt c.args.self.now.fresh; ends = going_more _ _ None _ _ (news_refused _ _ _ _ _ c.in_ok-number.ensures.added c.in_ok-number.ensures.number c.close_with.ensures.closed) c.args.self.now.ends over }
+    record { roomy = c.args.self.now.roomy; rings = rings_refused g.C.Crew.job_of _ _ _ _ _ _ _ c.in_ok-number.ensures.added c.in_ok-number.ensures.number c.close_with.ensures.closed c.args.self.now.rings after; fresh = fresh_more g.C.Crew.job_of g.S.Source.supply c.args.self.now.handles.items c.push_reserved-in-Err.new.self.items None after tt c.args.self.now.fresh; ends = going_more _ _ None _ _ (news_refused _ _ _ _ _ c.in_ok-number.ensures.added c.in_ok-number.ensures.number c.close_with.ensures.closed) c.args.self.now.ends over }
 
 pub returns-in-Err-clause-silent : goal.returns-in-Err-clause-silent
 returns-in-Err-clause-silent g c = news_refused _ _ _ _ _ c.in_ok-number.ensures.added c.in_ok-number.ensures.number c.close_with.ensures.closed
@@ -23,6 +23,7 @@ invariant_of-self-in-Ok g c =
     let after : c.push_reserved.new.self.items ≡ links ++ Some c.in-Ok.handle ∷ [] = search rules in
     let more : c.push_reserved-in-Ok.new.self.items ≡ c.args.self.now.going.items ++ true ∷ [] = search rules in
     record {
+      roomy = c.args.self.now.roomy;
       rings =
           rings_opened f (mails c.args.self.now.desk) (mails c.add.new.self) (ring_of_inbox c.in_ok-sender.inbox) (taken c.in_ok-sender.inbox) links c.push_reserved.new.self.items c.in-Ok.handle c.new.result c.in_ok-sender.sender
           c.in_ok-number.ensures.added after c.in-Ok.ensures.started c.new.ensures.sender c.new.ensures.greeted c.in_ok-sender.ensures.fresh.0 c.in_ok-sender.ensures.pair c.args.self.now.rings;
