@@ -36,12 +36,12 @@ use Rattle.xd_drive.specs.Driven.{Whole}
 use Rattle.xd_drive.specs.Listed.{is_listed}
 use Rattle.xd_drive.specs.Seen.{HubSeen, TurnScene}
 use Rattle.xd_drive.specs.Taken.{taken_of}
-use Rattle.xd_group.specs.Fates.{has_link, is_refused, workers_with}
+use Rattle.xd_group.specs.Linkages.{has_link, is_refused, workers_with}
 use Rattle.xd_group.specs.Returned.{RanSo}
 use Rattle.xd_group.specs.Tells.{workers_started}
 use Rattle.xd_group.specs.Unused.{Unused}
 use Rattle.xd_group_peer.specs.EndedLinks.{EndedLink}
-use Rattle.xd_group_peer.specs.ToLink.{call_of}
+use Rattle.xd_group_peer.specs.ToLink.{call_with}
 use Rattle.xd_group_peer.specs.LinkRun.{Link, LinkRun}
 use Rattle.xd_system.specs.Own.{is_told_to}
 use Rattle.xd_system.proofs.Runs.{member-fold}
@@ -163,17 +163,17 @@ module _ (setup : Setup) (j : Journal) (code : ℕ) (links : List EndedLink) (ol
   orders_are w = ap (entries_to w) ends_by ∙ filter-append (is_told_to w) (run_of settings taken).entries (Over how ∷ []) ∙ append-nil (entries_to w (run_of settings taken).entries)
 
   abbrev refused : List ℕ
-  refused = workers_with is_refused (workers_started run.runs.calls) run.runs.fates
+  refused = workers_with is_refused (workers_started run.runs.calls) run.runs.linkages
 
   none_refused : refused ≡ []
-  none_refused = none_with is_refused (workers_started run.runs.calls) run.runs.fates (no_times _ old.crew_faults new.crew_faults run.runs.few_refused.rose still.crew)
+  none_refused = none_with is_refused (workers_started run.runs.calls) run.runs.linkages (no_times _ old.crew_faults new.crew_faults run.runs.few_refused.rose still.crew)
 
   all_linked : map (λ l. l.worker) links ≡ workers_started run.runs.calls
-  all_linked = run.runs.all ∙ all_with (workers_started run.runs.calls) run.runs.fates (no_times _ old.starter_faults new.starter_faults run.runs.few_unlinked still.starter) run.runs.matched
+  all_linked = run.runs.all ∙ all_with (workers_started run.runs.calls) run.runs.linkages (no_times _ old.starter_faults new.starter_faults run.runs.few_unlinked still.starter) run.runs.matched
 
   -- what is known of each link
   record Carries (l : EndedLink) : Type 0 where
-    ran : ∥ RanSo (call_of setup.suite settings.mode) run.runs.given run.runs.calls refused l.worker l.link ∥₁
+    ran : ∥ RanSo (call_with setup.suite settings.mode) run.runs.given run.runs.calls refused l.worker l.link ∥₁
     all : ∥ GivesAll setup j l ∥₁
     read : l.link.spring.faults ≡ 0
     sent : l.link.writes ≡ 0
@@ -199,11 +199,11 @@ module _ (setup : Setup) (j : Journal) (code : ℕ) (links : List EndedLink) (ol
     its_link : IsFound Carries links w
     its_link = found Carries links w each has_link_listed
 
-    link_ran : (l : EndedLink) → l.worker ≡ w → RanSo (call_of setup.suite settings.mode) run.runs.given run.runs.calls refused l.worker l.link → RanSo (call_of setup.suite settings.mode) given run.runs.calls [] w l.link
+    link_ran : (l : EndedLink) → l.worker ≡ w → RanSo (call_with setup.suite settings.mode) run.runs.given run.runs.calls refused l.worker l.link → RanSo (call_with setup.suite settings.mode) given run.runs.calls [] w l.link
     link_ran l its r =
-        subst (λ (u : ℕ). RanSo (call_of setup.suite settings.mode) given run.runs.calls [] u l.link) its
-        (subst (λ (n : List News). RanSo (call_of setup.suite settings.mode) n run.runs.calls [] l.worker l.link) given_are
-        (subst (λ (ws : List ℕ). RanSo (call_of setup.suite settings.mode) run.runs.given run.runs.calls ws l.worker l.link) none_refused r))
+        subst (λ (u : ℕ). RanSo (call_with setup.suite settings.mode) given run.runs.calls [] u l.link) its
+        (subst (λ (n : List News). RanSo (call_with setup.suite settings.mode) n run.runs.calls [] l.worker l.link) given_are
+        (subst (λ (ws : List ℕ). RanSo (call_with setup.suite settings.mode) run.runs.given run.runs.calls ws l.worker l.link) none_refused r))
 
     its_tells : ∥ Tells w its_link.link ∥₁
     its_tells = ∥∥₁_map₂ its_link.holds.ran its_link.holds.all (λ r g. record {

@@ -56,7 +56,7 @@ use Rattle.xd_system.specs.Tells.{is_of_run, orders_of, tells}
 use Rattle.std.specs.List.{list_all}
 use Rattle.xd_system.proofs.Accused.{never_accused}
 use Rattle.xd_system.proofs.Runs.{first-begun}
-use Rattle.xd_group_peer.specs.ToLink.{call_of}
+use Rattle.xd_group_peer.specs.ToLink.{call_with}
 use Rattle.xd_system_messages.specs.Bridge.{AreSayable, CanBeCalled, IsHeardAsCalled}
 use Rattle.xd_system_messages.specs.Steps.{entries_to}
 use Rattle.xd_system_messages.proofs.Bridge.{says_what_it_tells, waits}
@@ -216,7 +216,7 @@ pub record LinkTells (suite : List ℕ) (settings : Settings) (given : List News
 
 pub link_tells : (suite : List ℕ) (settings : Settings) (proper : IsProper settings []) (c : CanBeCalled suite settings.mode) (given : List News) (w : ℕ)
     → has_member w (λ m. true) (begun_run settings).state.books ≡ true
-    → (orders : List Entry) (l : Link) (supply : Supply) → LinkRun (call_of suite settings.mode) (said_by w given) orders l
+    → (orders : List Entry) (l : Link) (supply : Supply) → LinkRun (call_with suite settings.mode) (said_by w given) orders l
     → l.spring.supply ≡ Some supply → l.spring.faults ≡ 0 → l.writes ≡ 0
     → SaysAll suite settings.mode (entries_to w (run_of settings (taken_of settings given)).entries) (supply.given ++ supply.left)
     → LinkTells suite settings given w (supply.given ++ supply.left)

@@ -9,11 +9,11 @@ use Rattle.xd_journal.specs.declared.entry.Entry.TheVariants.{Ready, Collected, 
 use Rattle.xd_run_laws.proofs.Logic.{cases_of, differ}
 use Rattle.xd_drive.specs.Calls.{calls_in}
 use Rattle.xd_drive.specs.Listed.{is_listed}
-use Rattle.xd_group.specs.Fates.{has_link, is_unlinked, workers_with}
+use Rattle.xd_group.specs.Linkages.{has_link, is_unlinked, workers_with}
 use Rattle.xd_group.specs.Few.{count_with}
 use Rattle.xd_group.specs.Tells.{workers_started}
-use Rattle.xd_group.specs.declared.fate.Fate.{Fate}
-use Rattle.xd_group.specs.declared.fate.Fate.TheVariants as fate
+use Rattle.xd_group.specs.declared.linkage.Linkage.{Linkage}
+use Rattle.xd_group.specs.declared.linkage.Linkage.TheVariants as linkage
 use Rattle.xd_group_peer.specs.EndedLinks.{EndedLink}
 use Rattle.xd_complete.specs.Complete.{IsAmong}
 use Rattle.xd_complete.proofs.Begun.{is_start_of}
@@ -22,9 +22,9 @@ use Rattle.xd_complete.proofs.Begun.{is_start_of}
 pub no_times : (k old new : ℕ) → RoseBy k old new → StoodStill old new → k ≡ 0
 no_times k old new rose still = (let more = rose still.1 in let same = still.0 in omega (arith, more, same))
 
--- no start had such a fate
-pub none_with : (which : Fate → Bool) (ws : List ℕ) (fates : List Fate) → count_with which fates ≡ 0 → workers_with which ws fates ≡ []
-none_with which [] fates h = refl
+-- no start had such a linkage
+pub none_with : (which : Linkage → Bool) (ws : List ℕ) (linkages : List Linkage) → count_with which linkages ≡ 0 → workers_with which ws linkages ≡ []
+none_with which [] linkages h = refl
 none_with which (w ∷ ws) [] h = refl
 none_with which (w ∷ ws) (f ∷ fs) h = go (which f) (none_with which ws fs) h
   where
@@ -34,12 +34,12 @@ none_with which (w ∷ ws) (f ∷ fs) h = go (which f) (none_with which ws fs) h
     go false k e = k e
 
 -- each start has a link
-pub all_with : (ws : List ℕ) (fates : List Fate) → count_with is_unlinked fates ≡ 0 → length fates ≡ length ws → workers_with has_link ws fates ≡ ws
-all_with [] fates h l = refl
+pub all_with : (ws : List ℕ) (linkages : List Linkage) → count_with is_unlinked linkages ≡ 0 → length linkages ≡ length ws → workers_with has_link ws linkages ≡ ws
+all_with [] linkages h l = refl
 all_with (w ∷ ws) [] h l = absurd cc
-all_with (w ∷ ws) (fate.Unlinked ∷ fs) h l = absurd (let z = h in cc)
-all_with (w ∷ ws) (fate.Refused ∷ fs) h l = ap (λ (r : List ℕ). w ∷ r) (all_with ws fs h (let q : length fs ≡ length ws = cc in q))
-all_with (w ∷ ws) (fate.Linked ∷ fs) h l = ap (λ (r : List ℕ). w ∷ r) (all_with ws fs h (let q : length fs ≡ length ws = cc in q))
+all_with (w ∷ ws) (linkage.Unlinked ∷ fs) h l = absurd (let z = h in cc)
+all_with (w ∷ ws) (linkage.Refused ∷ fs) h l = ap (λ (r : List ℕ). w ∷ r) (all_with ws fs h (let q : length fs ≡ length ws = cc in q))
+all_with (w ∷ ws) (linkage.Linked ∷ fs) h l = ap (λ (r : List ℕ). w ∷ r) (all_with ws fs h (let q : length fs ≡ length ws = cc in q))
 
 -- the worker's link is among these
 pub record IsFound (P : EndedLink → Type 0) (links : List EndedLink) (w : ℕ) : Type 0 where

@@ -6,7 +6,7 @@ use Rattle.xd_journal.specs.declared.news.What.{What}
 use Rattle.xd_reader.specs.declared.news.LinkStop.TheVariants.{Ended}
 use Rattle.xd_reader.specs.Judged.{link_messages, link_stop}
 use Rattle.xd_gateway.specs.News.{IsNewsOf}
-use Rattle.xd_group_peer.specs.ToLink.{call_of, has_left, to_link}
+use Rattle.xd_group_peer.specs.ToLink.{call_with, has_left, to_link}
 use Rattle.xd_worker.specs.declared.input.WorkerInput.{WorkerInput}
 use Rattle.xd_worker.specs.History.{HeardInput, all_said}
 use Rattle.xd_worker.specs.Inputs.{AreHeardInputs, has_link_end, messages_in}
@@ -22,7 +22,7 @@ pub record SaysAll (suite : List ℕ) (mode : ModeKind) (orders : List Entry) (b
   pub heard : AreHeardInputs inputs history
   pub given : AreGiven history
   pub no_end : has_link_end inputs ≡ false
-  pub ordered : IsFirstPart (messages_in inputs) (to_link (call_of suite mode) orders [])
+  pub ordered : IsFirstPart (messages_in inputs) (to_link (call_with suite mode) orders [])
   pub says : link_messages true bytes ≡ all_said history
   pub whole : link_stop true bytes ≡ Ended
   pub news : List What

@@ -22,17 +22,17 @@ use Rattle.xd_drive.specs.Listed.{is_listed, starts_of}
 use Rattle.xd_drive.specs.Marks.{no_marks}
 use Rattle.xd_drive.specs.Seen.{TurnScene}
 use Rattle.xd_starts.specs.Children.{AskedOfLink, ToldByStarter, link_asked, told_of}
-use Rattle.xd_group.specs.Fates.{has_link, is_linked, is_refused, is_unlinked, workers_with}
+use Rattle.xd_group.specs.Linkages.{has_link, is_linked, is_refused, is_unlinked, workers_with}
 use Rattle.xd_group.specs.Few.{RoseFor, count_with}
 use Rattle.xd_group.specs.InStep.{all_started}
 use Rattle.xd_group.specs.Kills.{EndKilledSo}
 use Rattle.xd_group_peer.specs.EndedLinks.{EndedLink}
-use Rattle.xd_group_peer.specs.ToLink.{call_of}
+use Rattle.xd_group_peer.specs.ToLink.{call_with}
 use Rattle.xd_group_peer.specs.declared.worker_call.WorkerCall.{WorkerCall}
 use Rattle.xd_group.specs.Returned.{RanSo, end_told}
 use Rattle.xd_group.specs.Tells.{marks_told, workers_started}
 use Rattle.xd_group.specs.Unsaid.{SaidUnlinked}
-use Rattle.xd_group.specs.declared.fate.Fate.{Fate}
+use Rattle.xd_group.specs.declared.linkage.Linkage.{Linkage}
 use Rattle.xd_dist.specs.Linked.{DrivesTo, LinkedRun, RunsLinked, LinksSeen, Setup, scene_told}
 
 -- a hub that was called for nothing and gave nothing has marked no worker
@@ -58,32 +58,32 @@ begun_from None now more asked e = e
 begun_from (Some b) now more asked e = e
 
 -- a run by what the hub took and gave and what its links left
-pub runs_linked : {A : Type 0} (seen : A → EndedLink) (ends : List A) (setup : Setup) (now : WorkerCall) (j : Journal) (calls : List Entry) (given : List News) (workers : List ℕ) (fates : List Fate) (places : List Place)
+pub runs_linked : {A : Type 0} (seen : A → EndedLink) (ends : List A) (setup : Setup) (now : WorkerCall) (j : Journal) (calls : List Entry) (given : List News) (workers : List ℕ) (linkages : List Linkage) (places : List Place)
     (first : Option Begun) (last : Option ToldByStarter) (starter_old starter_new crew_old crew_new out_old out_new : ℕ) (s0 s1 : Option Sunk) (ms : List TurnScene)
-    → now ≡ call_of setup.suite setup.settings.mode → workers ≡ workers_started calls → length fates ≡ length workers → places ≡ setup.places → DrivesTo j calls given s0 s1 ms
-    → map (λ a. (seen a).worker) ends ≡ workers_with has_link workers fates
-    → All (λ a. ∥ RanSo now given calls (workers_with is_refused workers fates) (seen a).worker (seen a).link ∥₁) ends
-    → last ≡ option_map (λ b. record { starts = b.starts ++ all_started places (starts_of calls) fates; links = map link_asked b.links ++ map (λ a. end_told (seen a).killed) ends }) first
-    → All (λ a. ∥ EndKilledSo calls given (workers_with is_refused workers fates) (seen a).worker (seen a).killed (seen a).link.writes ∥₁) ends
-    → ((w : ℕ) → is_listed w (workers_with is_linked workers fates) ≡ false → ∥ SaidUnlinked given w ∥₁)
-    → RoseFor (count_with is_refused fates) crew_old crew_new → RoseBy (count_with is_unlinked fates) starter_old starter_new
+    → now ≡ call_with setup.suite setup.settings.mode → workers ≡ workers_started calls → length linkages ≡ length workers → places ≡ setup.places → DrivesTo j calls given s0 s1 ms
+    → map (λ a. (seen a).worker) ends ≡ workers_with has_link workers linkages
+    → All (λ a. ∥ RanSo now given calls (workers_with is_refused workers linkages) (seen a).worker (seen a).link ∥₁) ends
+    → last ≡ option_map (λ b. record { starts = b.starts ++ all_started places (starts_of calls) linkages; links = map link_asked b.links ++ map (λ a. end_told (seen a).killed) ends }) first
+    → All (λ a. ∥ EndKilledSo calls given (workers_with is_refused workers linkages) (seen a).worker (seen a).killed (seen a).link.writes ∥₁) ends
+    → ((w : ℕ) → is_listed w (workers_with is_linked workers linkages) ≡ false → ∥ SaidUnlinked given w ∥₁)
+    → RoseFor (count_with is_refused linkages) crew_old crew_new → RoseBy (count_with is_unlinked linkages) starter_old starter_new
     → RunsLinked setup j (map seen ends) (record { begun = option_map told_of first; starter_faults = starter_old; crew_faults = crew_old; sunk = s0; out_faults = out_old }) (record { begun = last; starter_faults = starter_new; crew_faults = crew_new; sunk = s1; out_faults = out_new }) ms
-runs_linked {A} seen ends setup now j calls given workers fates places first last starter_old starter_new crew_old crew_new out_old out_new s0 s1 ms same listed matched at drives all each begun killed unlinked refused failed = record {
+runs_linked {A} seen ends setup now j calls given workers linkages places first last starter_old starter_new crew_old crew_new out_old out_new s0 s1 ms same listed matched at drives all each begun killed unlinked refused failed = record {
   calls = calls;
   given = given;
-  fates = fates;
+  linkages = linkages;
   drives = drives;
   matched = matched ∙ ap (λ (ws : List ℕ). length ws) listed;
-  all = map-map (λ l. l.worker) seen ends ∙ (all ∙ ap (λ (ws : List ℕ). workers_with has_link ws fates) listed);
-  each = All-map (λ l. ∥ RanSo (call_of setup.suite setup.settings.mode) given calls (workers_with is_refused (workers_started calls) fates) l.worker l.link ∥₁) seen ends
-      (subst (λ (ws : List ℕ). All (λ a. ∥ RanSo (call_of setup.suite setup.settings.mode) given calls (workers_with is_refused ws fates) (seen a).worker (seen a).link ∥₁) ends) listed
-      (subst (λ (l : WorkerCall). All (λ a. ∥ RanSo l given calls (workers_with is_refused workers fates) (seen a).worker (seen a).link ∥₁) ends) same each));
-  begun = subst (λ (ps : List Place). last ≡ option_map (λ b. record { starts = b.starts ++ all_started ps (starts_of calls) fates; links = b.links ++ map (λ l. end_told l.killed) (map seen ends) }) (option_map told_of first)) at
-      (subst (λ (asked : List AskedOfLink). last ≡ option_map (λ b. record { starts = b.starts ++ all_started places (starts_of calls) fates; links = b.links ++ asked }) (option_map told_of first)) (sym (map-map (λ l. end_told l.killed) seen ends))
-      (begun_from first last (all_started places (starts_of calls) fates) (map (λ a. end_told (seen a).killed) ends) begun));
-  killed = All-map (λ l. ∥ EndKilledSo calls given (workers_with is_refused (workers_started calls) fates) l.worker l.killed l.link.writes ∥₁) seen ends
-      (subst (λ (ws : List ℕ). All (λ a. ∥ EndKilledSo calls given (workers_with is_refused ws fates) (seen a).worker (seen a).killed (seen a).link.writes ∥₁) ends) listed killed);
-  unlinked = λ w out. unlinked w (ap (λ (ws : List ℕ). is_listed w (workers_with is_linked ws fates)) listed ∙ out);
+  all = map-map (λ l. l.worker) seen ends ∙ (all ∙ ap (λ (ws : List ℕ). workers_with has_link ws linkages) listed);
+  each = All-map (λ l. ∥ RanSo (call_with setup.suite setup.settings.mode) given calls (workers_with is_refused (workers_started calls) linkages) l.worker l.link ∥₁) seen ends
+      (subst (λ (ws : List ℕ). All (λ a. ∥ RanSo (call_with setup.suite setup.settings.mode) given calls (workers_with is_refused ws linkages) (seen a).worker (seen a).link ∥₁) ends) listed
+      (subst (λ (l : WorkerCall). All (λ a. ∥ RanSo l given calls (workers_with is_refused workers linkages) (seen a).worker (seen a).link ∥₁) ends) same each));
+  begun = subst (λ (ps : List Place). last ≡ option_map (λ b. record { starts = b.starts ++ all_started ps (starts_of calls) linkages; links = b.links ++ map (λ l. end_told l.killed) (map seen ends) }) (option_map told_of first)) at
+      (subst (λ (asked : List AskedOfLink). last ≡ option_map (λ b. record { starts = b.starts ++ all_started places (starts_of calls) linkages; links = b.links ++ asked }) (option_map told_of first)) (sym (map-map (λ l. end_told l.killed) seen ends))
+      (begun_from first last (all_started places (starts_of calls) linkages) (map (λ a. end_told (seen a).killed) ends) begun));
+  killed = All-map (λ l. ∥ EndKilledSo calls given (workers_with is_refused (workers_started calls) linkages) l.worker l.killed l.link.writes ∥₁) seen ends
+      (subst (λ (ws : List ℕ). All (λ a. ∥ EndKilledSo calls given (workers_with is_refused ws linkages) (seen a).worker (seen a).killed (seen a).link.writes ∥₁) ends) listed killed);
+  unlinked = λ w out. unlinked w (ap (λ (ws : List ℕ). is_listed w (workers_with is_linked ws linkages)) listed ∙ out);
   few_refused = refused;
   few_unlinked = failed;
 }

@@ -15,16 +15,16 @@ use Rattle.xd_drive.specs.Driven.{Broken, IsJournalOf, Whole}
 use Rattle.xd_drive.specs.Seen.{HubScene, TurnScene}
 use Rattle.xd_drive.specs.Listed.{is_listed, starts_of}
 use Rattle.xd_starts.specs.Children.{ToldByStarter, told_of}
-use Rattle.xd_group.specs.Fates.{has_link, is_linked, is_refused, is_unlinked, workers_with}
+use Rattle.xd_group.specs.Linkages.{has_link, is_linked, is_refused, is_unlinked, workers_with}
 use Rattle.xd_group.specs.Few.{RoseFor, count_with}
 use Rattle.xd_group.specs.InStep.{all_started}
 use Rattle.xd_group.specs.Kills.{EndKilledSo}
 use Rattle.xd_group_peer.specs.EndedLinks.{EndedLink}
-use Rattle.xd_group_peer.specs.ToLink.{call_of}
+use Rattle.xd_group_peer.specs.ToLink.{call_with}
 use Rattle.xd_group.specs.Returned.{RanSo, end_told}
 use Rattle.xd_group.specs.Tells.{marks_told, workers_started}
 use Rattle.xd_group.specs.Unsaid.{SaidUnlinked}
-use Rattle.xd_group.specs.declared.fate.Fate.{Fate}
+use Rattle.xd_group.specs.declared.linkage.Linkage.{Linkage}
 use Rattle.xd_dist.specs.declared.linked.LinkedSuite.{LinkedSuite}
 
 -- what a run is made of: the path of its suite, its settings, and the places of its workers, by slots
@@ -62,25 +62,25 @@ links_seen begun starter_faults crew_faults sunk out_faults = record { begun = o
 
 -- The starter told one start at the place of its slot for each start of a worker, which failed where the worker has no link,
 -- and of each link whether its kill was asked for, and one reaping.
-abbrev pub AddsBegun : List Place → List Entry → List Fate → List EndedLink → Option ToldByStarter → Option ToldByStarter → Type 0
-AddsBegun places calls fates links old new = new ≡ option_map (λ b. record { starts = b.starts ++ all_started places (starts_of calls) fates; links = b.links ++ map (λ l. end_told l.killed) links }) old
+abbrev pub AddsBegun : List Place → List Entry → List Linkage → List EndedLink → Option ToldByStarter → Option ToldByStarter → Type 0
+AddsBegun places calls linkages links old new = new ≡ option_map (λ b. record { starts = b.starts ++ all_started places (starts_of calls) linkages; links = b.links ++ map (λ l. end_told l.killed) links }) old
 
--- A run with workers: what the hub took and gave made the journal and its report. Each start of a worker has a fate:
+-- A run with workers: what the hub took and gave made the journal and its report. Each start of a worker has a linkage:
 -- no link, a link whose reader was refused, or a link that was read. The links are those of the starts, in order; each that was
 -- read gave its worker's news and took its worker's orders, from its start to its end, and each other one was not used.
 pub record RunsLinked (setup : Setup) (j : Journal) (links : List EndedLink) (old new : LinksSeen) (moments : List TurnScene) : Type 0 where
   pub calls : List Entry
   pub given : List News
-  pub fates : List Fate
+  pub linkages : List Linkage
   pub drives : DrivesTo j calls given old.sunk new.sunk moments
-  pub matched : length fates ≡ length (workers_started calls)
-  pub all : map (λ l. l.worker) links ≡ workers_with has_link (workers_started calls) fates
-  pub each : All (λ l. ∥ RanSo (call_of setup.suite setup.settings.mode) given calls (workers_with is_refused (workers_started calls) fates) l.worker l.link ∥₁) links
-  pub begun : AddsBegun setup.places calls fates links old.begun new.begun
-  pub killed : All (λ l. ∥ EndKilledSo calls given (workers_with is_refused (workers_started calls) fates) l.worker l.killed l.link.writes ∥₁) links
-  pub unlinked : (w : ℕ) → is_listed w (workers_with is_linked (workers_started calls) fates) ≡ false → ∥ SaidUnlinked given w ∥₁
-  pub few_refused : RoseFor (count_with is_refused fates) old.crew_faults new.crew_faults
-  pub few_unlinked : RoseBy (count_with is_unlinked fates) old.starter_faults new.starter_faults
+  pub matched : length linkages ≡ length (workers_started calls)
+  pub all : map (λ l. l.worker) links ≡ workers_with has_link (workers_started calls) linkages
+  pub each : All (λ l. ∥ RanSo (call_with setup.suite setup.settings.mode) given calls (workers_with is_refused (workers_started calls) linkages) l.worker l.link ∥₁) links
+  pub begun : AddsBegun setup.places calls linkages links old.begun new.begun
+  pub killed : All (λ l. ∥ EndKilledSo calls given (workers_with is_refused (workers_started calls) linkages) l.worker l.killed l.link.writes ∥₁) links
+  pub unlinked : (w : ℕ) → is_listed w (workers_with is_linked (workers_started calls) linkages) ≡ false → ∥ SaidUnlinked given w ∥₁
+  pub few_refused : RoseFor (count_with is_refused linkages) old.crew_faults new.crew_faults
+  pub few_unlinked : RoseBy (count_with is_unlinked linkages) old.starter_faults new.starter_faults
 
 -- A run of a suite on workers: its journal, its exit status, its links, the outside, and how its hub and the output stood
 -- after the lines of each piece of news.

@@ -31,7 +31,7 @@ use xd_load::{Each, Load};
 use xd_reader::Reader;
 use xd_scope::Scope;
 use xd_session::Session;
-use xd_starts::Children;
+use xd_starts::Starts;
 use xd_steal::Steal;
 use xd_trace::Moments;
 
@@ -83,9 +83,9 @@ fn run_over<R: Wait, M: Mode, St: Starter, C: Crew<Reader<St::Src>>, O: Sink>(
         r.0.journal
         (ended_links St.Src.supply St.Src.is_ended St.Src.faults St.Snk.sunk St.Snk.faults
         r.1.items)
-        (links_seen (St.begun hub.old.children.first.value) (St.faults hub.old.children.first.value)
+        (links_seen (St.begun hub.old.starts.first.value) (St.faults hub.old.starts.first.value)
         (C.faults hub.old.group.first.value) (O.sunk out.old) (O.faults out.old))
-        (links_seen (St.begun hub.new.children.starter) (St.faults hub.new.children.starter)
+        (links_seen (St.begun hub.new.starts.starter) (St.faults hub.new.starts.starter)
         (C.faults hub.new.group.links.crew) (O.sunk out.new) (O.faults out.new))
         (turns_of diary_tells O.sunk r.0.moments)) }
     ensures counted { IfOk result (λ r.
@@ -105,7 +105,7 @@ fn end_workers<R: Wait, St: Starter, C: Crew<Reader<St::Src>>, O>(
 )
     ensures same { OnOk ended.now (hub.new ≡ hub.old) }
     ensures over { OnErr ended.now
-        (list_all is_killed_and_reaped hub.new.children.children.items ≡ true) }
+        (list_all is_killed_and_reaped hub.new.starts.children.items ≡ true) }
 {
     if ended.is_err() {
         hub.abandon(rt);
@@ -226,14 +226,14 @@ fn run_in<R: Wait, M: Mode, St: Starter, C: Crew<Reader<St::Src>>, O: Sink>(
     end_workers(rt, &mut hub, &ended);
     let GatewayHub {
         places: _,
-        children,
+        starts,
         group,
     } = hub;
-    let Children {
+    let Starts {
         starter,
         children: _,
         first: _,
-    } = children;
+    } = starts;
     let Group {
         links,
         first: _,

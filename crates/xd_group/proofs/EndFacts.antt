@@ -11,17 +11,17 @@ use Rattle.xd_reader.specs.declared.reader.Reader.{Reader}
 use Rattle.xd_post.specs.Post.{Ring}
 use Rattle.xd_links.specs.Links.{ring_of_link, ring_of_mail, sources_of}
 use Rattle.xd_links.specs.Runs.{news_of}
-use Rattle.xd_group.specs.Fates.{EndedFrom, is_linked}
+use Rattle.xd_group.specs.Linkages.{EndedFrom, is_linked}
 use Rattle.xd_group_peer.specs.Heard.{says_send_fault}
 use Rattle.xd_group.specs.inner.Kept.{Kept, said_of_worker}
 use Rattle.xd_group.specs.inner.Late.{IsLateAt, Late, Settled}
 use Rattle.xd_group_peer.specs.Pages.{HasPage, Page, taken_of_link}
-use Rattle.xd_group_peer.specs.PeerView.{ends_of, has_ended, losses_of, page_by, pages_of}
-use Rattle.xd_group.specs.declared.fate.Fate.{Fate}
-use Rattle.xd_group.specs.declared.fate.Fate.TheVariants as fate
+use Rattle.xd_group_peer.specs.PeerView.{ends_of, has_ended, breaks_of, page_by, pages_of}
+use Rattle.xd_group.specs.declared.linkage.Linkage.{Linkage}
+use Rattle.xd_group.specs.declared.linkage.Linkage.TheVariants as linkage
 use Rattle.xd_group_peer.specs.declared.peer.Peer.{Peer}
 use Rattle.xd_group.proofs.Keeping.{map_read}
-use Rattle.xd_group.proofs.LossFacts.{fault_lost}
+use Rattle.xd_group.proofs.BreakFacts.{fault_broken}
 use Rattle.xd_group.proofs.PageFacts.{never}
 
 and_left : (a b : Bool) → (a && b) ≡ true → a ≡ true
@@ -34,38 +34,38 @@ and_right false b h = absurd (cc h)
 
 module _ {N : Type 0} {g : _} where
   -- where nothing more is to come of any, it is so with each that is read
-  pub ended_from : (xs : List (Option (Peer N g))) (fates : List Fate) → map is_some (pages_of xs) ≡ map is_linked fates → list_all has_ended xs ≡ true → EndedFrom 0 (ends_of xs) fates
-  ended_from xs fates seats all k h f = at xs fates k seats all f
+  pub ended_from : (xs : List (Option (Peer N g))) (linkages : List Linkage) → map is_some (pages_of xs) ≡ map is_linked linkages → list_all has_ended xs ≡ true → EndedFrom 0 (ends_of xs) linkages
+  ended_from xs linkages linked all k h f = at xs linkages k linked all f
     where
-      at : (xs : List (Option (Peer N g))) (fs : List Fate) (k : ℕ) → map is_some (pages_of xs) ≡ map is_linked fs → list_all has_ended xs ≡ true → slice_get fs k ≡ Some fate.Linked → slice_get (ends_of xs) k ≡ Some true
+      at : (xs : List (Option (Peer N g))) (fs : List Linkage) (k : ℕ) → map is_some (pages_of xs) ≡ map is_linked fs → list_all has_ended xs ≡ true → slice_get fs k ≡ Some linkage.Linked → slice_get (ends_of xs) k ≡ Some true
       at [] [] k s a f = absurd (cc f)
       at [] (t ∷ fs) k s a f = absurd (cc s)
       at (o ∷ xs) [] k s a f = absurd (cc f)
       at (None ∷ xs) (t ∷ fs) zero s a f =
           let unread : false ≡ is_linked t = cc s in
-          let it : t ≡ fate.Linked = cc f in
+          let it : t ≡ linkage.Linked = cc f in
           let z : false ≡ true = unread ∙ ap is_linked it in absurd (cc z)
       at (Some p ∷ xs) (t ∷ fs) zero s a f = ap Some (and_left p.is_ended (list_all has_ended xs) a)
       at (o ∷ xs) (t ∷ fs) (suc k) s a f = let rest : map is_some (pages_of xs) ≡ map is_linked fs = cc s in at xs fs k rest (and_right (has_ended o) (list_all has_ended xs) a) f
 
   -- where its reader was started a link has a page
-  page_read : (xs : List (Option (Peer N g))) (fates : List Fate) (k : ℕ) → map is_some (pages_of xs) ≡ map is_linked fates → slice_get fates k ≡ Some fate.Linked → HasPage (pages_of xs) k
+  page_read : (xs : List (Option (Peer N g))) (linkages : List Linkage) (k : ℕ) → map is_some (pages_of xs) ≡ map is_linked linkages → slice_get linkages k ≡ Some linkage.Linked → HasPage (pages_of xs) k
   page_read [] [] k s f = absurd (cc f)
   page_read [] (t ∷ fs) k s f = absurd (cc s)
   page_read (o ∷ xs) [] k s f = absurd (cc f)
   page_read (None ∷ xs) (t ∷ fs) zero s f =
       let unread : false ≡ is_linked t = cc s in
-      let it : t ≡ fate.Linked = cc f in
+      let it : t ≡ linkage.Linked = cc f in
       let z : false ≡ true = unread ∙ ap is_linked it in absurd (cc z)
   page_read (Some p ∷ xs) (t ∷ fs) zero s f = (page_by p, refl)
   page_read (o ∷ xs) (t ∷ fs) (suc k) s f = let rest : map is_some (pages_of xs) ≡ map is_linked fs = cc s in page_read xs fs k rest f
 
   -- where the news of a worker whose link is read say that a send failed, a write to its link failed
-  pub said_lost : (call : WorkerCall) (taken : List (Option (List LinkNews))) (calls : List Entry) (given : List News) (workers : List ℕ) (xs : List (Option (Peer N g))) (fates : List Fate) (k w : ℕ) → Kept call taken calls given workers (pages_of xs) → map is_some (pages_of xs) ≡ map is_linked fates
-      → slice_get workers k ≡ Some w → slice_get fates k ≡ Some fate.Linked → list_any says_send_fault (said_of_worker w given) ≡ true → slice_get (losses_of xs) k ≡ Some true
-  said_lost call taken calls given workers xs fates k w kept seats at is h =
-      let it = page_read xs fates k seats is in
-      fault_lost xs k it.0 it.1 ((kept.own k it.0 it.1).known) (ap (list_any says_send_fault) (kept.said k w it.0 at it.1) ∙ h)
+  pub said_broken : (call : WorkerCall) (taken : List (Option (List LinkNews))) (calls : List Entry) (given : List News) (workers : List ℕ) (xs : List (Option (Peer N g))) (linkages : List Linkage) (k w : ℕ) → Kept call taken calls given workers (pages_of xs) → map is_some (pages_of xs) ≡ map is_linked linkages
+      → slice_get workers k ≡ Some w → slice_get linkages k ≡ Some linkage.Linked → list_any says_send_fault (said_of_worker w given) ≡ true → slice_get (breaks_of xs) k ≡ Some true
+  said_broken call taken calls given workers xs linkages k w kept linked at is h =
+      let it = page_read xs linkages k linked is in
+      fault_broken xs k it.0 it.1 ((kept.own k it.0 it.1).known) (ap (list_any says_send_fault) (kept.said k w it.0 at it.1) ∙ h)
 
   page_ended : (xs : List (Option (Peer N g))) (k : ℕ) → slice_get (ends_of xs) k ≡ Some true → HasPage (pages_of xs) k
   page_ended [] k e = absurd (cc e)

@@ -15,16 +15,16 @@ use Rattle.xd_links.specs.Runs.{LinkRead}
 use Rattle.xd_links.proofs.Places.{set_read}
 use Rattle.xd_group_peer.specs.Ends.{EndsSo}
 use Rattle.xd_drive.specs.Listed.{is_listed}
-use Rattle.xd_group.specs.Fates.{is_refused, workers_with}
+use Rattle.xd_group.specs.Linkages.{is_refused, workers_with}
 use Rattle.xd_group.specs.Returned.{RanSo}
 use Rattle.xd_group.specs.Unused.{Unused}
-use Rattle.xd_group.specs.declared.fate.Fate.{Fate}
-use Rattle.xd_group.specs.declared.fate.Fate.TheVariants as fate
+use Rattle.xd_group.specs.declared.linkage.Linkage.{Linkage}
+use Rattle.xd_group.specs.declared.linkage.Linkage.TheVariants as linkage
 use Rattle.xd_group.specs.inner.Kept.{Kept, orders_to, said_of_worker}
-use Rattle.xd_group.specs.inner.Late.{IsLateAt, Late, LateAt, RanAt, Settled, late_page, settled_at, settled_of}
+use Rattle.xd_group.specs.inner.Late.{IsLateAt, Late, LateAt, RanAt, Settled, settled_at, settled_of}
 use Rattle.xd_group_peer.specs.LinkRun.{Link, LinkRun, link_of}
-use Rattle.xd_group_peer.specs.Pages.{Page, taken_of_link}
-use Rattle.xd_group.proofs.FateFacts.{among_with, not_with}
+use Rattle.xd_group_peer.specs.Pages.{Page, late_page, taken_of_link}
+use Rattle.xd_group.proofs.LinkageFacts.{among_with, not_with}
 use Rattle.xd_group.proofs.Keeping.{map_read, page_taken}
 use Rattle.xd_group.proofs.Running.{link_run}
 
@@ -102,6 +102,11 @@ run_by call taken calls given workers pages k w l at kept ran =
 pub some_of : {X : Type 0} (P : X → Type 0) (o : Option X) (x : X) → o ≡ Some x → IfSome o P → P x
 some_of P o x e h = let there : IfSome (Some x) P = subst (λ (y : Option _). IfSome y P) e h in there
 
+-- what holds of a value holds of the one that came back, where it is that value
+pub some_same : {X : Type 0} (P : X → Type 0) (o : Option X) (x : X) → IfSome o (λ b. b ≡ x) → P x → IfSome o P
+some_same P None x e p = tt
+some_same P (Some b) x e p = subst P (sym e) p
+
 by_yes : (b : Bool) (P Q : Type 0) → b ≡ true → P → MatchBool b P Q
 by_yes true P Q e p = p
 by_yes false P Q e p = absurd (cc e)
@@ -111,12 +116,12 @@ by_no true P Q e q = absurd (cc e)
 by_no false P Q e q = q
 
 -- a link whose reader was refused was not used
-pub unused_so : (call : WorkerCall) (calls : List Entry) (given : List News) (workers : List ℕ) (fates : List Fate) (k w : ℕ) (l : Link) → slice_get workers k ≡ Some w → slice_get fates k ≡ Some fate.Refused → Unused l
-    → ∥ RanSo call given calls (workers_with is_refused workers fates) w l ∥₁
-unused_so call calls given workers fates k w l at is un = ∣ by_yes (is_listed w (workers_with is_refused workers fates)) (Unused l) (LinkRun call (said_of_worker w given) (orders_to w calls) l) (among_with is_refused workers fates k w fate.Refused at is refl) un ∣₁
+pub unused_so : (call : WorkerCall) (calls : List Entry) (given : List News) (workers : List ℕ) (linkages : List Linkage) (k w : ℕ) (l : Link) → slice_get workers k ≡ Some w → slice_get linkages k ≡ Some linkage.Refused → Unused l
+    → ∥ RanSo call given calls (workers_with is_refused workers linkages) w l ∥₁
+unused_so call calls given workers linkages k w l at is un = ∣ by_yes (is_listed w (workers_with is_refused workers linkages)) (Unused l) (LinkRun call (said_of_worker w given) (orders_to w calls) l) (among_with is_refused workers linkages k w linkage.Refused at is refl) un ∣₁
 
 -- a link that was read ran so
-pub linked_so : (call : WorkerCall) (taken : List (Option (List LinkNews))) (calls : List Entry) (given : List News) (workers : List ℕ) (pages : List (Option Page)) (fates : List Fate) (k w : ℕ) (l : Link) → slice_get workers k ≡ Some w → slice_get fates k ≡ Some fate.Linked
-    → ∥ RanAt (map settled_at pages) k l ∥₁ → ∥ Kept call taken calls given workers pages ∥₁ → ∥ RanSo call given calls (workers_with is_refused workers fates) w l ∥₁
-linked_so call taken calls given workers pages fates k w l at is ran kept =
-    ∥∥₁_map₂ kept ran (λ kp r. by_no (is_listed w (workers_with is_refused workers fates)) (Unused l) (LinkRun call (said_of_worker w given) (orders_to w calls) l) (not_with is_refused workers fates k w fate.Linked kp.apart at is refl) (run_by call taken calls given workers pages k w l at kp r))
+pub linked_so : (call : WorkerCall) (taken : List (Option (List LinkNews))) (calls : List Entry) (given : List News) (workers : List ℕ) (pages : List (Option Page)) (linkages : List Linkage) (k w : ℕ) (l : Link) → slice_get workers k ≡ Some w → slice_get linkages k ≡ Some linkage.Linked
+    → ∥ RanAt (map settled_at pages) k l ∥₁ → ∥ Kept call taken calls given workers pages ∥₁ → ∥ RanSo call given calls (workers_with is_refused workers linkages) w l ∥₁
+linked_so call taken calls given workers pages linkages k w l at is ran kept =
+    ∥∥₁_map₂ kept ran (λ kp r. by_no (is_listed w (workers_with is_refused workers linkages)) (Unused l) (LinkRun call (said_of_worker w given) (orders_to w calls) l) (not_with is_refused workers linkages k w linkage.Linked kp.apart at is refl) (run_by call taken calls given workers pages k w l at kp r))

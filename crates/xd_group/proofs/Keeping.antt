@@ -414,14 +414,6 @@ kept_started call taken next_taken calls all given workers next_workers pages ne
       new_said = λ u f. kept.new_said u (started_before u calls all (entry.Start w slot) is f);
     }
 
-pub given_some : (given all : List News) (news : Option News) → all ≡ given ++ option_to_list news → IfSome news (λ n. all ≡ given ++ n ∷ [])
-given_some given all None e = tt
-given_some given all (Some n) e = e
-
-pub given_none : (given all : List News) (news : Option News) → all ≡ given ++ option_to_list news → IfNone news (all ≡ given)
-given_none given all None e = e ∙ append-nil given
-given_none given all (Some n) e = tt
-
 -- ---- where a worker may be told, and what can be heard
 
 any_said : (f : What → Bool) (w : ℕ) (given : List News) → list_any (λ n. n.worker == w && f n.what) given ≡ list_any f (said_of_worker w given)

@@ -1,11 +1,11 @@
 pub mod Counting
 pub mod EndFacts
 pub mod Ending
-pub mod FateFacts
+pub mod LinkageFacts
 pub mod Keeping
 pub mod Killing
 pub mod Known
-pub mod LossFacts
+pub mod BreakFacts
 pub mod Marking
 pub mod PageFacts
 pub mod Running

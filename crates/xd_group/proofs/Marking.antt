@@ -1,16 +1,17 @@
 -- The marks of workers after a call.
-use Rattle.std.proofs.Common.{◌≡◌, ℕ, List, [], ◌∷◌, ◌++◌, Bool, true, false, ◌||◌, refl, ◌∙◌, ap}
+use Rattle.std.proofs.Common.{◌≡◌, ℕ, List, [], ◌∷◌, ◌++◌, Bool, true, false, ◌||◌, Option, Some, refl, ◌∙◌, ap}
 use Rattle.std.specs.Prelude.{◌==◌, ◌&&◌}
 use Rattle.std.specs.List.{list_any}
 use Rattle.std.proofs.lemmas.List.Folds.{list_any-append}
 use Rattle.xd_journal.specs.declared.entry.Entry.{Entry}
-use Rattle.xd_journal.specs.declared.entry.Entry.TheVariants.{Start}
+use Rattle.xd_journal.specs.declared.entry.Entry.TheVariants.{Kill, Start}
 use Rattle.xd_journal.specs.declared.news.News.{News}
 use Rattle.xd_drive.specs.Calls.{is_order}
 use Rattle.xd_drive.specs.Listed.{is_kill_of, was_killed}
 use Rattle.xd_journal.specs.Said.{is_end, is_ready}
-use Rattle.xd_drive.specs.Marks.{Marks, marked_heard, marked_started}
+use Rattle.xd_drive.specs.Marks.{Marks, marked_heard, marked_killed, marked_started}
 use Rattle.xd_drive.specs.Performing.{is_start_of, was_started}
+use Rattle.xd_drive.specs.Seen.{HubSeen, after_call, after_one_given}
 use Rattle.xd_group.specs.Tells.{marks_told}
 use Rattle.xd_group.proofs.Keeping.{order_starts}
 use Rattle.xd_group.proofs.Killing.{order_kills}
@@ -39,6 +40,20 @@ pub marks_ordered : (calls all : List Entry) (given same : List News) (worker : 
 marks_ordered calls all given same worker e is order gis w =
     rw (gis) (same_marks (was_started w all) (was_started w calls) (was_killed w all) (was_killed w calls) _ _ _ _ (any_same (is_start_of w) calls all e is (order_starts w worker e order)) (any_same (is_kill_of w) calls all e is (order_kills w worker e order)) refl refl)
 
+pub marks_killed : (calls all : List Entry) (given same : List News) (worker : ℕ) → all ≡ calls ++ Kill worker ∷ [] → same ≡ given → (w : ℕ) → marks_told all same w ≡ marked_killed worker w (marks_told calls given w)
+marks_killed calls all given same worker is gis w =
+    rw (gis) (same_marks (was_started w all) (was_started w calls) (was_killed w all) (was_killed w calls || (worker == w)) _ _ _ _ (any_same (is_start_of w) calls all (Kill worker) is refl) (any_more (is_kill_of w) calls all (Kill worker) is) refl refl)
+
 pub marks_heard : (calls same : List Entry) (given all : List News) (n : News) → all ≡ given ++ n ∷ [] → same ≡ calls → (w : ℕ) → marks_told same all w ≡ marked_heard n w (marks_told calls given w)
 marks_heard calls same given all n is cis w =
     rw (cis) (same_marks (was_started w calls) (was_started w calls) (was_killed w calls) (was_killed w calls) _ _ _ _ refl refl (any_more (λ m. m.worker == w && is_ready m.what) given all n is) (any_more (λ m. m.worker == w && is_end m.what) given all n is))
+
+-- what a hub tells after a call, and after a piece of news
+abbrev seen_as : List Entry → List News → Option HubSeen
+seen_as calls given = Some (record { calls = calls; given = given })
+
+pub seen_called : (calls all : List Entry) (given same : List News) (e : Entry) → all ≡ calls ++ e ∷ [] → same ≡ given → seen_as all same ≡ Some (after_call e (record { calls = calls; given = given }))
+seen_called calls all given same e is gis = rw (is, gis) refl
+
+pub seen_gave : (calls same : List Entry) (given all : List News) (n : News) → same ≡ calls → all ≡ given ++ n ∷ [] → seen_as same all ≡ Some (after_one_given n (record { calls = calls; given = given }))
+seen_gave calls same given all n cis is = rw (cis, is) refl

@@ -4,7 +4,7 @@ use Rattle.std.specs.Prelude.{◌||◌, IfSome, MatchBool}
 use Rattle.xd_edge.specs.Sink.{Sunk}
 use Rattle.xd_edge.specs.Faults.{Rose}
 use Rattle.xd_frame.specs.Message.{MessageView}
-use Rattle.xd_link.specs.Source.{Supply, Gave}
+use Rattle.xd_link.specs.Source.{Supply, NotedNews}
 use Rattle.xd_journal.specs.declared.entry.Cause.{Cause}
 use Rattle.xd_links.specs.Runs.{LinkRead}
 use Rattle.xd_reader.specs.declared.news.LinkNews.{LinkNews}
@@ -65,14 +65,14 @@ closed_so true s writes ms sent z = absurd (omega (arith, (sent.part refl).0, z)
 closed_so false s writes ms sent z = ap (λ (t : Sunk). t.closed) (sent.whole refl)
 
 sent_so : (why : Cause) (broken : Bool) (sunk : Option Sunk) (writes : ℕ) (ms : List MessageView) → (is_send_fault why ≡ true → broken ≡ true) → SentAs broken true sunk writes ms → (is_send_fault why ≡ false → IfSome sunk (HandedOn ms)) → IfSome sunk (SentSo why ms writes)
-sent_so why broken None writes ms lost sent handed = tt
-sent_so why broken (Some s) writes ms lost sent handed = by (is_send_fault why) refl
+sent_so why broken None writes ms fails sent handed = tt
+sent_so why broken (Some s) writes ms fails sent handed = by (is_send_fault why) refl
   where
     by : (fault : Bool) → is_send_fault why ≡ fault → MatchBool fault (SentPart ms s) (SentAll ms writes s)
-    by true e = (sent.part (lost e)).1
+    by true e = (sent.part (broken e)).1
     by false e = record { handed_on = handed e; closed = closed_so broken s writes ms sent }
 
-given_so : (bytes : List ℕ) (old new : Option Supply) → IfSome old (λ s. s.given ≡ []) → Gave bytes old new → IfSome new (λ s. s.given ≡ bytes)
+given_so : (bytes : List ℕ) (old new : Option Supply) → IfSome old (λ s. s.given ≡ []) → NotedNews bytes old new → IfSome new (λ s. s.given ≡ bytes)
 given_so bytes None new fresh g = subst (λ (o : Option Supply). IfSome o (λ s. s.given ≡ bytes)) (sym g.0) tt
 given_so bytes (Some s) new fresh g = subst (λ (o : Option Supply). IfSome o (λ t. t.given ≡ bytes)) (sym g.0) (ap (λ (l : List ℕ). l ++ take (length bytes) s.left) fresh ∙ g.1)
 
@@ -114,8 +114,8 @@ or_true false = refl
 
 module _ {K : Type 0} where
   -- a peer that is known to have ended
-  pub ends_so : (g : Gateway K) (p : Page) (ended lost closed : Bool) (sunk : Option Sunk) (writes : ℕ) → ended ≡ true → closed ≡ (has_left p.said || ended) → HeardSo g ended lost p.taken (p.said ++ p.late) → SentAs lost closed sunk writes (to_link p.call p.told p.said) → EndsWhole (p.said ++ p.late) (to_link p.call p.told p.said) sunk
+  pub ends_so : (g : Gateway K) (p : Page) (ended broken closed : Bool) (sunk : Option Sunk) (writes : ℕ) → ended ≡ true → closed ≡ (has_left p.said || ended) → HeardSo g ended broken p.taken (p.said ++ p.late) → SentAs broken closed sunk writes (to_link p.call p.told p.said) → EndsWhole (p.said ++ p.late) (to_link p.call p.told p.said) sunk
       → EndsSo p sunk writes
-  ends_so g p false lost closed sunk writes e c h s w = absurd (cc e)
-  ends_so g p true lost closed sunk writes e c h s w =
-      record { broken = lost; heard = h.heard; are = h.stands.are; tells = h.tells; sent = subst (λ (b : Bool). SentAs lost b sunk writes (to_link p.call p.told p.said)) (c ∙ or_true (has_left p.said)) s; handed = w }
+  ends_so g p false broken closed sunk writes e c h s w = absurd (cc e)
+  ends_so g p true broken closed sunk writes e c h s w =
+      record { broken = broken; heard = h.heard; are = h.stands.are; tells = h.tells; sent = subst (λ (b : Bool). SentAs broken b sunk writes (to_link p.call p.told p.said)) (c ∙ or_true (has_left p.said)) s; handed = w }

@@ -13,12 +13,12 @@ use Rattle.xd_reader.specs.declared.news.LinkNews.{LinkNews}
 use Rattle.xd_drive.specs.Listed.{is_listed}
 use Rattle.xd_drive.specs.Performing.{was_started}
 use Rattle.xd_links.proofs.Places.{push_read}
-use Rattle.xd_group.specs.Fates.{is_linked, workers_with}
+use Rattle.xd_group.specs.Linkages.{is_linked, workers_with}
 use Rattle.xd_group.specs.inner.Kept.{Kept, said_of_worker}
 use Rattle.xd_group_peer.specs.Pages.{HasPage, Page, page_opened}
 use Rattle.xd_group.specs.Unsaid.{IsWaiting, SaidUnlinked, Unsaid, wait_one}
-use Rattle.xd_group.specs.declared.fate.Fate.{Fate}
-use Rattle.xd_group.proofs.FateFacts.{among_with, not_within}
+use Rattle.xd_group.specs.declared.linkage.Linkage.{Linkage}
+use Rattle.xd_group.proofs.LinkageFacts.{among_with, not_within}
 use Rattle.xd_group.proofs.Keeping.{either_worker, news_of_worker, page_taken, said_more, said_other, said_same, same_some}
 use Rattle.xd_group.proofs.PageFacts.{never}
 
@@ -28,12 +28,12 @@ opened_some : (call : WorkerCall) (b : Bool) → is_some (page_opened call b) �
 opened_some call true = refl
 opened_some call false = refl
 
-pub opened_seats : (call : WorkerCall) (b : Bool) (pages next : List (Option Page)) (fates fs : List Fate) (f : Fate) → next ≡ pages ++ page_opened call b ∷ [] → fs ≡ fates ++ f ∷ [] → is_linked f ≡ b → map is_some pages ≡ map is_linked fates → map is_some next ≡ map is_linked fs
-opened_seats call b pages next fates fs f is fis h e =
+pub opened_linked : (call : WorkerCall) (b : Bool) (pages next : List (Option Page)) (linkages fs : List Linkage) (f : Linkage) → next ≡ pages ++ page_opened call b ∷ [] → fs ≡ linkages ++ f ∷ [] → is_linked f ≡ b → map is_some pages ≡ map is_linked linkages → map is_some next ≡ map is_linked fs
+opened_linked call b pages next linkages fs f is fis h e =
     ap (map is_some) is ∙ (map-append is_some pages (page_opened call b ∷ []) ∙ (ap (λ (l : List Bool). l ++ is_some (page_opened call b) ∷ []) e
-    ∙ (ap (λ (x : Bool). map is_linked fates ++ x ∷ []) (opened_some call b ∙ sym h) ∙ (sym (map-append is_linked fates (f ∷ [])) ∙ ap (map is_linked) (sym fis)))))
+    ∙ (ap (λ (x : Bool). map is_linked linkages ++ x ∷ []) (opened_some call b ∙ sym h) ∙ (sym (map-append is_linked linkages (f ∷ [])) ∙ ap (map is_linked) (sym fis)))))
 
-no_page : (pages : List (Option Page)) (fates : List Fate) (k : ℕ) (f : Fate) → map is_some pages ≡ map is_linked fates → slice_get fates k ≡ Some f → is_linked f ≡ false → slice_get pages k ≡ Some None
+no_page : (pages : List (Option Page)) (linkages : List Linkage) (k : ℕ) (f : Linkage) → map is_some pages ≡ map is_linked linkages → slice_get linkages k ≡ Some f → is_linked f ≡ false → slice_get pages k ≡ Some None
 no_page [] [] k f e b h = absurd (cc b)
 no_page [] (g ∷ fs) k f e b h = absurd (cc e)
 no_page (o ∷ ps) [] k f e b h = absurd (cc b)
@@ -69,35 +69,35 @@ none_same (None ∷ ps) (o ∷ ns) zero e f = refl
 none_same (Some p ∷ ps) (o ∷ ns) zero e f = let same : o ≡ None = cc f in absurd (let z : is_some o ≡ true = cc e in let y : is_some o ≡ false = ap is_some same in (let x : true ≡ false = sym z ∙ y in cc x))
 none_same (p ∷ ps) (o ∷ ns) (suc k) e f = let rest : map is_some ns ≡ map is_some ps = cc e in none_same ps ns k rest f
 
--- nothing was said, and no link opened or lost
+-- nothing was said, and no link opened or broken
 pub unsaid_told : (given : List News) (workers : List ℕ) (pages next : List (Option Page)) (waiting : List ℕ) → map is_some next ≡ map is_some pages → Unsaid given workers pages waiting → Unsaid given workers next waiting
-unsaid_told given workers pages next waiting seats u =
+unsaid_told given workers pages next waiting linked u =
     record {
-      waits = λ i k w e f. ((u.waits i k w e f).0, none_same next pages k (sym seats) (u.waits i k w e f).1);
+      waits = λ i k w e f. ((u.waits i k w e f).0, none_same next pages k (sym linked) (u.waits i k w e f).1);
       once = u.once;
       below = u.below;
-      said = λ k w e f. u.said k w e (none_same pages next k seats f);
+      said = λ k w e f. u.said k w e (none_same pages next k linked f);
     }
 
 -- something was said of a worker with a link
 pub unsaid_heard : (given all : List News) (workers : List ℕ) (pages next : List (Option Page)) (waiting : List ℕ) (k w : ℕ) (p : Page) (what : Option What) (news : Option News) → all ≡ given ++ option_to_list news → news ≡ news_of_worker w what → slice_get workers k ≡ Some w → slice_get pages k ≡ Some (Some p)
     → ((k l v : ℕ) → slice_get workers k ≡ Some v → slice_get workers l ≡ Some v → k ≡ l) → map is_some next ≡ map is_some pages → Unsaid given workers pages waiting → Unsaid all workers next waiting
-unsaid_heard given all workers pages next waiting k w p what news added is at has apart seats u =
+unsaid_heard given all workers pages next waiting k w p what news added is at has apart linked u =
     let these = added ∙ ap (λ (n : Option News). given ++ option_to_list n) is in
     let same = λ (i v : ℕ) (wi : slice_get workers i ≡ Some v) (none : slice_get pages i ≡ Some None). said_other v w given all what these (λ e. some_none (slice_get pages k) p has (ap (slice_get pages) (apart k i w at (wi ∙ ap Some e)) ∙ none)) in
     record {
-      waits = λ i j v e f. let was = u.waits i j v e f in (same j v f was.1 ∙ was.0, none_same next pages j (sym seats) was.1);
+      waits = λ i j v e f. let was = u.waits i j v e f in (same j v f was.1 ∙ was.0, none_same next pages j (sym linked) was.1);
       once = u.once;
       below = u.below;
-      said = λ j v e f. let none = none_same pages next j seats f in subst (λ (l : List What). IsWaiting j waiting ⊎ (l ≡ NotStarted ∷ [])) (sym (same j v e none)) (u.said j v e none);
+      said = λ j v e f. let none = none_same pages next j linked f in subst (λ (l : List What). IsWaiting j waiting ⊎ (l ≡ NotStarted ∷ [])) (sym (same j v e none)) (u.said j v e none);
     }
 
 -- an item was taken of a link
-pub unsaid_step : (call : WorkerCall) (taken : List (Option (List LinkNews))) (calls : List Entry) (given all : List News) (workers : List ℕ) (pages next : List (Option Page)) (waiting : List ℕ) (k w : ℕ) (got : List LinkNews) (what : Option What) (news : Option News)
+pub unsaid_heard : (call : WorkerCall) (taken : List (Option (List LinkNews))) (calls : List Entry) (given all : List News) (workers : List ℕ) (pages next : List (Option Page)) (waiting : List ℕ) (k w : ℕ) (got : List LinkNews) (what : Option What) (news : Option News)
     → slice_get taken k ≡ Some (Some got) → all ≡ given ++ option_to_list news → news ≡ news_of_worker w what → slice_get workers k ≡ Some w → map is_some next ≡ map is_some pages → Kept call taken calls given workers pages → Unsaid given workers pages waiting → Unsaid all workers next waiting
-unsaid_step call taken calls given all workers pages next waiting k w got what news was added is at seats kept u =
+unsaid_heard call taken calls given all workers pages next waiting k w got what news was added is at linked kept u =
     let it = page_taken pages k got (ap (λ (l : List (Option (List LinkNews))). slice_get l k) kept.takes ∙ was) in
-    unsaid_heard given all workers pages next waiting k w it.0 what news added is at it.1 kept.apart seats u
+    unsaid_heard given all workers pages next waiting k w it.0 what news added is at it.1 kept.apart linked u
 
 front : (xs ys : List ℕ) (i k : ℕ) → slice_get xs i ≡ Some k → slice_get (xs ++ ys) i ≡ Some k
 front [] ys i k e = absurd (cc e)
@@ -252,32 +252,32 @@ unsaid_opened call taken calls given workers ws pages next waiting held waits w 
 
 -- ---- in the end
 
-fate_there : (workers : List ℕ) (fates : List Fate) (k w : ℕ) → length fates ≡ length workers → slice_get workers k ≡ Some w → (f : Fate) × (slice_get fates k ≡ Some f)
-fate_there [] fates k w h e = absurd (cc e)
-fate_there (x ∷ ws) [] k w h e = absurd (omega (arith, h))
-fate_there (x ∷ ws) (f ∷ fs) zero w h e = (f, refl)
-fate_there (x ∷ ws) (f ∷ fs) (suc k) w h e = fate_there ws fs k w (omega (arith, h)) e
+linkage_there : (workers : List ℕ) (linkages : List Linkage) (k w : ℕ) → length linkages ≡ length workers → slice_get workers k ≡ Some w → (f : Linkage) × (slice_get linkages k ≡ Some f)
+linkage_there [] linkages k w h e = absurd (cc e)
+linkage_there (x ∷ ws) [] k w h e = absurd (omega (arith, h))
+linkage_there (x ∷ ws) (f ∷ fs) zero w h e = (f, refl)
+linkage_there (x ∷ ws) (f ∷ fs) (suc k) w h e = linkage_there ws fs k w (omega (arith, h)) e
 
 no_way : (b : Bool) → b ≡ true → b ≡ false → ⊥
 no_way true t f = cc f
 no_way false t f = cc t
 
 -- a worker without a link that is read
-pub said_unlinked : (call : WorkerCall) (taken : List (Option (List LinkNews))) (calls : List Entry) (given : List News) (workers : List ℕ) (pages : List (Option Page)) (fates : List Fate) (waiting : List ℕ) (w : ℕ) → length fates ≡ length workers → map is_some pages ≡ map is_linked fates
-    → is_listed w (workers_with is_linked workers fates) ≡ false → Kept call taken calls given workers pages → Unsaid given workers pages waiting → SaidUnlinked given w
-said_unlinked call taken calls given workers pages fates waiting w matched seats out kept u = by (was_started w calls) refl
+pub said_unlinked : (call : WorkerCall) (taken : List (Option (List LinkNews))) (calls : List Entry) (given : List News) (workers : List ℕ) (pages : List (Option Page)) (linkages : List Linkage) (waiting : List ℕ) (w : ℕ) → length linkages ≡ length workers → map is_some pages ≡ map is_linked linkages
+    → is_listed w (workers_with is_linked workers linkages) ≡ false → Kept call taken calls given workers pages → Unsaid given workers pages waiting → SaidUnlinked given w
+said_unlinked call taken calls given workers pages linkages waiting w matched linked out kept u = by (was_started w calls) refl
   where
     as_said : (k : ℕ) → slice_get workers k ≡ Some w → IsWaiting k waiting ⊎ (said_of_worker w given ≡ NotStarted ∷ []) → SaidUnlinked given w
     as_said k at (inl (i, e)) = inl (u.waits i k w e at).0
     as_said k at (inr was) = inr was
 
-    of : (k : ℕ) → slice_get workers k ≡ Some w → (f : Fate) → slice_get fates k ≡ Some f → (b : Bool) → is_linked f ≡ b → SaidUnlinked given w
-    of k at f is true h = absurd (no_way (is_listed w (workers_with is_linked workers fates)) (among_with is_linked workers fates k w f at is h) out)
-    of k at f is false h = as_said k at (u.said k w at (no_page pages fates k f seats is h))
+    of : (k : ℕ) → slice_get workers k ≡ Some w → (f : Linkage) → slice_get linkages k ≡ Some f → (b : Bool) → is_linked f ≡ b → SaidUnlinked given w
+    of k at f is true h = absurd (no_way (is_listed w (workers_with is_linked workers linkages)) (among_with is_linked workers linkages k w f at is h) out)
+    of k at f is false h = as_said k at (u.said k w at (no_page pages linkages k f linked is h))
 
     by : (b : Bool) → was_started w calls ≡ b → SaidUnlinked given w
     by false h = inl (kept.new_said w h)
-    by true h = let it = kept.placed w h in let f = fate_there workers fates it.0 w matched it.1 in of it.0 it.1 f.0 f.1 (is_linked f.0) refl
+    by true h = let it = kept.placed w h in let f = linkage_there workers linkages it.0 w matched it.1 in of it.0 it.1 f.0 f.1 (is_linked f.0) refl
 
 -- where nothing comes out of a list, it is empty
 pub none_left : (r : Option ℕ) (n m : ℕ) (xs : List ℕ) (P : ℕ → Type 0) → MatchOption r ((n ≡ 0) × (m ≡ 0)) P → m ≡ length xs → IfNone r (xs ≡ [])

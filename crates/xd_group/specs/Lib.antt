@@ -1,8 +1,8 @@
 pub mod Diaries
-pub mod Fates
 pub mod Few
 pub mod InStep
 pub mod Kills
+pub mod Linkages
 pub mod Returned
 pub mod Tells
 pub mod Unsaid

@@ -1,7 +1,7 @@
 // How the links of a group are closed, once nothing is told and nothing said any more.
 
-use crate::fate::Fate;
 use crate::group::Group;
+use crate::linkage::Linkage;
 use crate::peers::{have_ended, hear_late_at, leave_at};
 use crate::spare::{Spare, take_kept};
 use std::sync::Wait;
@@ -26,14 +26,14 @@ impl<S: Source + Drop, N: Sink + Drop, C: Crew<Reader<S>>> Group<S, N, C> {
     ghost use Rattle.xd_post.specs.Mails.{mails};
     ghost use Rattle.xd_trace.specs.Noted.{noted};
     ghost use Rattle.xd_group.specs.inner.Ending.{Began, Ending, began_with, links_left};
-    ghost use Rattle.xd_group.specs.Fates.{has_link, is_refused, workers_with};
+    ghost use Rattle.xd_group.specs.Linkages.{has_link, is_refused, workers_with};
     ghost use Rattle.xd_group.specs.Returned.{RanSo};
-    ghost use Rattle.xd_group_peer.specs.PeerView.{pages_of, ends_of, has_ended, losses_of};
-    ghost use Rattle.xd_group.specs.declared.fate.Fate.{Fate};
-    ghost use Rattle.xd_group.specs.declared.fate.Fate.TheVariants.{Linked};
+    ghost use Rattle.xd_group_peer.specs.PeerView.{pages_of, ends_of, has_ended, breaks_of};
+    ghost use Rattle.xd_group.specs.declared.linkage.Linkage.{Linkage};
+    ghost use Rattle.xd_group.specs.declared.linkage.Linkage.TheVariants.{Linked};
     ghost use Rattle.xd_group.specs.Unused.{Unused};
     ghost use Rattle.xd_group.specs.inner.Late.{Late, RanAt, Settled};
-    ghost use Rattle.xd_group.specs.Kills.{KeepsLost};
+    ghost use Rattle.xd_group.specs.Kills.{StaysBroken};
     ghost use Rattle.xd_group_peer.specs.LinkRun.{link_of};
     ghost use Rattle.xd_link.specs.Spring.{spring};
     ghost use Rattle.std.specs.List.{list_all};
@@ -50,10 +50,10 @@ impl<S: Source + Drop, N: Sink + Drop, C: Crew<Reader<S>>> Group<S, N, C> {
             ∥ Late first (news_of (mails links.old.desk)) (pages_of peers.old.items) ∥₁
             → OnOk result (∥ Late first (news_of (mails links.new.desk))
             (pages_of peers.new.items) ∥₁) }
-        ensures seats { OnOk result
+        ensures linked { OnOk result
             (map is_some (pages_of peers.new.items) ≡ map is_some (pages_of peers.old.items)) }
         ensures keeps { OnOk result
-            (KeepsLost (losses_of peers.old.items) (losses_of peers.new.items)) }
+            (StaysBroken (breaks_of peers.old.items) (breaks_of peers.new.items)) }
         ensures crew { links.new.crew ≡ links.old.crew }
     {
         let (number, item) = links.next(rt);
@@ -74,10 +74,10 @@ impl<S: Source + Drop, N: Sink + Drop, C: Crew<Reader<S>>> Group<S, N, C> {
             → OnOk result (∥ Late first (news_of (mails links.new.desk))
             (pages_of peers.new.items) ∥₁) }
         ensures ended { OnOk result (list_all has_ended peers.new.items ≡ true) }
-        ensures seats { OnOk result
+        ensures linked { OnOk result
             (map is_some (pages_of peers.new.items) ≡ map is_some (pages_of peers.old.items)) }
         ensures keeps { OnOk result
-            (KeepsLost (losses_of peers.old.items) (losses_of peers.new.items)) }
+            (StaysBroken (breaks_of peers.old.items) (breaks_of peers.new.items)) }
         ensures crew { links.new.crew ≡ links.old.crew }
     {
         for _ in rt.forever() {
@@ -127,11 +127,11 @@ impl<S: Source + Drop, N: Sink + Drop, C: Crew<Reader<S>>> Group<S, N, C> {
         ensures late { (first : List (Option Settled)) →
             ∥ Late first (news_of (mails links.old.desk)) (pages_of peers.old.items) ∥₁
             → ∥ Late first (news_of (mails links.new.desk)) (pages_of peers.new.items) ∥₁ }
-        ensures lost { slice_get (losses_of peers.old.items) number ≡ Some true →
+        ensures broken { slice_get (breaks_of peers.old.items) number ≡ Some true →
             0 < N.faults result.sink }
         ensures others { ((k : ℕ) → number < k →
-            slice_get (losses_of peers.old.items) k ≡ Some true →
-            slice_get (losses_of peers.new.items) k ≡ Some true)
+            slice_get (breaks_of peers.old.items) k ≡ Some true →
+            slice_get (breaks_of peers.new.items) k ≡ Some true)
             × ((k : ℕ) → number < k → slice_get (ends_of peers.old.items) k ≡ Some true →
             slice_get (ends_of peers.new.items) k ≡ Some true) }
         ensures crew { C.faults links.new.crew ≡ C.faults links.old.crew }
@@ -179,32 +179,30 @@ impl<S: Source + Drop, N: Sink + Drop, C: Crew<Reader<S>>> Group<S, N, C> {
             (links_left (mails self.old.links.desk) self.old.peers.items self.old.spares.items)
             → IfSome result (λ e. ∥ RanSo b.call (noted self.old.diary.given)
             (noted self.old.diary.calls)
-            (workers_with is_refused self.old.diary.workers.items self.old.diary.fates.items)
+            (workers_with is_refused self.old.diary.workers.items self.old.diary.linkages.items)
             e.worker (link_of (spring (S.supply e.source) (S.is_ended e.source)
             (S.faults e.source)) (N.sunk e.sink) (N.faults e.sink)) ∥₁) }
-        ensures fate { (f : Fate) × (slice_get self.old.diary.fates.items number ≡ Some f)
-            × (is_some result ≡ has_link f) }
-        ensures worker { IfSome result (λ e.
-            slice_get self.old.diary.workers.items number ≡ Some e.worker) }
-        ensures lost { slice_get self.old.diary.fates.items number ≡ Some Linked →
-            IfSome result (λ e. slice_get (losses_of self.old.peers.items) number ≡ Some true →
+        ensures start { (f : Linkage) × (slice_get self.old.diary.linkages.items number ≡ Some f)
+            × (is_some result ≡ has_link f)
+            × IfSome result (λ e. slice_get self.old.diary.workers.items number ≡ Some e.worker) }
+        ensures broken { slice_get self.old.diary.linkages.items number ≡ Some Linked →
+            IfSome result (λ e. slice_get (breaks_of self.old.peers.items) number ≡ Some true →
             0 < N.faults e.sink) }
-        ensures crew { (C.faults self.new.links.crew ≡ C.faults self.old.links.crew)
-            × (self.new.first ≡ self.old.first) }
-        ensures over { self.new.is_whole ≡ false }
-        ensures diary { self.new.diary ≡ self.old.diary }
+        ensures only { (self.new.diary ≡ self.old.diary) × (self.new.is_whole ≡ false)
+            × (self.new.first ≡ self.old.first)
+            × (C.faults self.new.links.crew ≡ C.faults self.old.links.crew) }
     {
         let Some(worker) = self.diary.worker_at(number) else {
             unreachable!()
         };
-        let fate = self.diary.fate_at(number);
-        match fate {
-            Fate::Unlinked => None,
-            Fate::Refused => {
+        let linkage = self.diary.linkage_at(number);
+        match linkage {
+            Linkage::Unlinked => None,
+            Linkage::Refused => {
                 let kept = Self::end_spare(&mut self.spares, number, worker);
                 Some(kept)
             }
-            Fate::Linked => {
+            Linkage::Linked => {
                 let closed = Self::close(&mut self.links, &mut self.peers, number, worker);
                 Some(closed)
             }

@@ -2,11 +2,11 @@
 ghost use Rattle.std.specs.Prelude.{◌≡◌, ◌<◌, ◌∷◌, ◌++◌, [], ℕ, All, IfOk, OnOk, IfSome, IfNone, Some, None, length, slice_get, option_map, option_to_list};
 ghost use Rattle.xd_journal.specs.declared.entry.Entry.TheVariants.{Start};
 ghost use Rattle.xd_trace.specs.Noted.{noted};
-ghost use Rattle.xd_group.specs.Fates.{is_linked};
+ghost use Rattle.xd_group.specs.Linkages.{is_linked};
 ghost use Rattle.xd_group.specs.Tells.{IsStarted, worker_of_start, workers_started};
 ghost use Rattle.xd_group.specs.Unsaid.{wait_one};
 
-use crate::fate::Fate;
+use crate::linkage::Linkage;
 use std::alloc::Global;
 use xd_edge::OutOfMemory;
 use xd_journal::{Entry, News, What};
@@ -20,11 +20,11 @@ pub struct Diary {
     /// By the numbers of their links.
     pub workers: Vec<u32>,
     /// What became of their starts.
-    pub fates: Vec<Fate>,
+    pub linkages: Vec<Linkage>,
     /// The numbers whose workers' next news is that they were not started.
     pub waiting: Vec<u32>,
     ghost known: { All (λ w. IsStarted (noted calls) w) workers.items },
-    ghost matched: { length fates.items ≡ length workers.items },
+    ghost matched: { length linkages.items ≡ length workers.items },
     ghost listed: { workers.items ≡ workers_started (noted calls) },
 }
 
@@ -33,7 +33,7 @@ impl Diary {
         ensures calls { IfOk result (λ d. noted d.calls ≡ []) }
         ensures given { IfOk result (λ d. noted d.given ≡ []) }
         ensures workers { IfOk result (λ d. d.workers.items ≡ []) }
-        ensures fates { IfOk result (λ d. d.fates.items ≡ []) }
+        ensures linkages { IfOk result (λ d. d.linkages.items ≡ []) }
         ensures waiting { IfOk result (λ d. d.waiting.items ≡ []) }
     {
         let calls = Trace::new(alloc)?;
@@ -42,7 +42,7 @@ impl Diary {
             calls,
             given,
             workers: Vec::new(alloc),
-            fates: Vec::new(alloc),
+            linkages: Vec::new(alloc),
             waiting: Vec::new(alloc),
         })
     }
@@ -51,7 +51,7 @@ impl Diary {
     pub fn note_call(&mut self, call: &Entry)
         requires no_start { worker_of_start call.now ≡ None }
         ensures workers { self.new.workers ≡ self.old.workers }
-        ensures fates { self.new.fates ≡ self.old.fates }
+        ensures linkages { self.new.linkages ≡ self.old.linkages }
         ensures calls { noted self.new.calls ≡ noted self.old.calls ++ call.now ∷ [] }
         ensures given { noted self.new.given ≡ noted self.old.given }
         ensures waiting { self.new.waiting ≡ self.old.waiting }
@@ -60,35 +60,40 @@ impl Diary {
     }
 
     /// The start of a worker, and what became of it.
-    pub fn note_start(&mut self, worker: u32, slot: u32, fate: Fate) -> Result<(), OutOfMemory>
+    pub fn note_start(
+        &mut self,
+        worker: u32,
+        slot: u32,
+        linkage: Linkage,
+    ) -> Result<(), OutOfMemory>
         ensures calls { OnOk result
             (noted self.new.calls ≡ noted self.old.calls ++ Start worker slot ∷ []) }
         ensures workers { OnOk result
             (self.new.workers.items ≡ self.old.workers.items ++ worker ∷ []) }
-        ensures fates { OnOk result (self.new.fates.items ≡ self.old.fates.items ++ fate ∷ []) }
+        ensures linkages { OnOk result (self.new.linkages.items ≡ self.old.linkages.items ++ linkage ∷ []) }
         ensures given { noted self.new.given ≡ noted self.old.given }
         ensures waiting { self.new.waiting ≡ self.old.waiting }
     {
         self.workers.reserve(1)?;
-        self.fates.reserve(1)?;
+        self.linkages.reserve(1)?;
         self.calls.note(&Entry::Start { worker, slot });
         self.workers.push_reserved(worker);
-        self.fates.push_reserved(fate);
+        self.linkages.push_reserved(linkage);
         Ok(())
     }
 
     /// Where the link of the number is not read, its worker's next news is that it was not started.
-    pub fn note_unlinked(&mut self, number: u32, fate: Fate) -> Result<(), OutOfMemory>
+    pub fn note_unlinked(&mut self, number: u32, linkage: Linkage) -> Result<(), OutOfMemory>
         ensures waiting { OnOk result
-            (self.new.waiting.items ≡ self.old.waiting.items ++ wait_one (is_linked fate) number) }
+            (self.new.waiting.items ≡ self.old.waiting.items ++ wait_one (is_linked linkage) number) }
         ensures calls { noted self.new.calls ≡ noted self.old.calls }
         ensures given { noted self.new.given ≡ noted self.old.given }
         ensures workers { self.new.workers ≡ self.old.workers }
-        ensures fates { self.new.fates ≡ self.old.fates }
+        ensures linkages { self.new.linkages ≡ self.old.linkages }
     {
-        match fate {
-            Fate::Linked => Ok(()),
-            Fate::Unlinked | Fate::Refused => {
+        match linkage {
+            Linkage::Linked => Ok(()),
+            Linkage::Unlinked | Linkage::Refused => {
                 self.waiting.push(number)?;
                 Ok(())
             }
@@ -100,7 +105,7 @@ impl Diary {
         ensures calls { noted self.new.calls ≡ noted self.old.calls }
         ensures given { noted self.new.given ≡ noted self.old.given ++ news.now ∷ [] }
         ensures workers { self.new.workers ≡ self.old.workers }
-        ensures fates { self.new.fates ≡ self.old.fates }
+        ensures linkages { self.new.linkages ≡ self.old.linkages }
         ensures waiting { self.new.waiting ≡ self.old.waiting }
     {
         self.given.note(news);
@@ -113,7 +118,7 @@ impl Diary {
         ensures calls { noted self.new.calls ≡ noted self.old.calls }
         ensures given { noted self.new.given ≡ noted self.old.given }
         ensures workers { self.new.workers ≡ self.old.workers }
-        ensures fates { self.new.fates ≡ self.old.fates }
+        ensures linkages { self.new.linkages ≡ self.old.linkages }
     {
         self.waiting.pop()
     }
@@ -124,7 +129,7 @@ impl Diary {
         ensures given { noted self.new.given ≡ noted self.old.given ++ option_to_list result }
         ensures calls { noted self.new.calls ≡ noted self.old.calls }
         ensures workers { self.new.workers ≡ self.old.workers }
-        ensures fates { self.new.fates ≡ self.old.fates }
+        ensures linkages { self.new.linkages ≡ self.old.linkages }
         ensures waiting { self.new.waiting ≡ self.old.waiting }
     {
         let Some(what) = what else {
@@ -150,11 +155,11 @@ impl Diary {
     }
 
     /// What became of the start of this number.
-    pub fn fate_at(&self, number: u32) -> Fate
+    pub fn linkage_at(&self, number: u32) -> Linkage
         requires { number < length self.now.workers.items }
-        ensures { slice_get self.now.fates.items number ≡ Some result }
+        ensures { slice_get self.now.linkages.items number ≡ Some result }
     {
-        self.fates[number as usize]
+        self.linkages[number as usize]
     }
 
     /// The number of a worker's link.

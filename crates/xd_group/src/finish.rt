@@ -19,7 +19,7 @@ impl<St: Starter, C: Crew<Reader<St::Src>>> GatewayHub<St, C> {
     ghost use Rattle.xd_drive.specs.Listed.{is_listed, starts_of};
     ghost use Rattle.xd_starts.specs.Children.{link_asked, starts_told, told_of};
     ghost use Rattle.xd_group.specs.inner.Ending.{AreEnded, Began, Ending, links_left};
-    ghost use Rattle.xd_group.specs.Fates.{has_link, is_linked, is_refused, is_unlinked, workers_with};
+    ghost use Rattle.xd_group.specs.Linkages.{has_link, is_linked, is_refused, is_unlinked, workers_with};
     ghost use Rattle.xd_group.specs.Few.{RoseFor, count_with};
     ghost use Rattle.xd_group.specs.InStep.{all_started};
     ghost use Rattle.xd_group.specs.Kills.{EndKilledSo};
@@ -51,18 +51,18 @@ impl<St: Starter, C: Crew<Reader<St::Src>>> GatewayHub<St, C> {
             self.old.group.spares.items)
             → AreEnded (λ s. spring (St.Src.supply s) (St.Src.is_ended s) (St.Src.faults s))
             St.Snk.sunk St.Snk.faults number b self.old.group.diary
-            self.old.children.children.items ends.old.items
+            self.old.starts.children.items ends.old.items
             → OnOk result (AreEnded
             (λ s. spring (St.Src.supply s) (St.Src.is_ended s) (St.Src.faults s))
             St.Snk.sunk St.Snk.faults (number + 1) b self.old.group.diary
-            self.new.children.children.items ends.new.items) }
-        ensures crew { (C.faults self.new.group.links.crew ≡ C.faults self.old.group.links.crew)
-            × (self.new.group.first ≡ self.old.group.first) }
-        ensures starts { starts_told (St.begun self.new.children.starter) ≡ starts_told
-            (St.begun self.old.children.starter) }
-        ensures first { self.new.children.first ≡ self.old.children.first }
-        ensures over { self.new.group.is_whole ≡ false }
-        ensures diary { self.new.group.diary ≡ self.old.group.diary }
+            self.new.starts.children.items ends.new.items) }
+        ensures only { (self.new.group.diary ≡ self.old.group.diary)
+            × (self.new.group.is_whole ≡ false)
+            × (self.new.group.first ≡ self.old.group.first)
+            × (C.faults self.new.group.links.crew ≡ C.faults self.old.group.links.crew) }
+        ensures starts { starts_told (St.begun self.new.starts.starter) ≡ starts_told
+            (St.begun self.old.starts.starter) }
+        ensures first { self.new.starts.first ≡ self.old.starts.first }
     {
         let left = self.group.end_link(number);
         if let Some(ended) = left {
@@ -71,7 +71,7 @@ impl<St: Starter, C: Crew<Reader<St::Src>>> GatewayHub<St, C> {
                 source,
                 sink,
             } = ended;
-            let killed = self.children.reap(rt, number as usize);
+            let killed = self.starts.reap(rt, number as usize);
             ends.push(LinkEnd {
                 worker,
                 source,
@@ -93,37 +93,37 @@ impl<St: Starter, C: Crew<Reader<St::Src>>> GatewayHub<St, C> {
             All (λ l. ∥ RanSo self.old.group.call
             (noted self.old.group.diary.given) (noted self.old.group.diary.calls)
             (workers_with is_refused self.old.group.diary.workers.items
-            self.old.group.diary.fates.items) l.worker
+            self.old.group.diary.linkages.items) l.worker
             (link_of (spring (St.Src.supply l.source) (St.Src.is_ended l.source)
             (St.Src.faults l.source)) (St.Snk.sunk l.sink) (St.Snk.faults l.sink)) ∥₁)
             ends.items) }
         ensures workers { IfOk result (λ ends.
             map (λ l. l.worker) ends.items ≡ workers_with has_link
-            self.old.group.diary.workers.items self.old.group.diary.fates.items) }
+            self.old.group.diary.workers.items self.old.group.diary.linkages.items) }
         ensures listed { self.old.group.diary.workers.items ≡ workers_started
             (noted self.old.group.diary.calls) }
         ensures begun { IfOk result (λ ends.
-            option_map told_of (St.begun self.new.children.starter) ≡ option_map (λ b. record {
+            option_map told_of (St.begun self.new.starts.starter) ≡ option_map (λ b. record {
               starts = b.starts ++ all_started self.old.places.items
-                  (starts_of (noted self.old.group.diary.calls)) self.old.group.diary.fates.items;
+                  (starts_of (noted self.old.group.diary.calls)) self.old.group.diary.linkages.items;
               links = map link_asked b.links ++ map (λ l. end_told l.killed) ends.items;
-            }) (St.begun self.old.children.first.value)) }
+            }) (St.begun self.old.starts.first.value)) }
         ensures killed { IfOk result (λ ends.
             All (λ l. ∥ EndKilledSo (noted self.old.group.diary.calls)
             (noted self.old.group.diary.given)
             (workers_with is_refused self.old.group.diary.workers.items
-            self.old.group.diary.fates.items) l.worker l.killed (St.Snk.faults l.sink) ∥₁)
+            self.old.group.diary.linkages.items) l.worker l.killed (St.Snk.faults l.sink) ∥₁)
             ends.items) }
         ensures unlinked { OnOk result ((w : ℕ) →
             is_listed w (workers_with is_linked self.old.group.diary.workers.items
-            self.old.group.diary.fates.items) ≡ false →
+            self.old.group.diary.linkages.items) ≡ false →
             ∥ SaidUnlinked (noted self.old.group.diary.given) w ∥₁) }
         ensures few_refused { OnOk result
-            (RoseFor (count_with is_refused self.old.group.diary.fates.items)
+            (RoseFor (count_with is_refused self.old.group.diary.linkages.items)
             (C.faults self.old.group.first.value) (C.faults self.new.group.links.crew)) }
         ensures few_unlinked { OnOk result
-            (RoseBy (count_with is_unlinked self.old.group.diary.fates.items)
-            (St.faults self.old.children.first.value) (St.faults self.new.children.starter)) }
+            (RoseBy (count_with is_unlinked self.old.group.diary.linkages.items)
+            (St.faults self.old.starts.first.value) (St.faults self.new.starts.starter)) }
     {
         let Ok(count) = u32::try_from(self.group.diary.workers.len()) else {
             return Err(OutOfMemory);

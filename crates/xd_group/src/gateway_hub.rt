@@ -1,23 +1,18 @@
 // The hub over the links that a starter starts and a crew reads.
-ghost use Rattle.std.specs.Prelude.{◌≡◌, ◌≤◌, ◌<◌, ◌+◌, ◌∷◌, ◌++◌, [], ℕ, Some, true, false, take, length, vec_len, IfOk, IfSome, IfNone, OnOk, Option};
+ghost use Rattle.std.specs.Prelude.{◌≡◌, ◌≤◌, [], true, length, vec_len, IfOk, IfSome, OnOk};
 ghost use Rattle.std.specs.Str.{encode_utf8_all};
 ghost use Rattle.std.specs.List.{list_all};
-ghost use Rattle.xd_journal.specs.declared.entry.Entry.TheVariants.{Start, Kill};
-ghost use Rattle.xd_drive.specs.Calls.{is_order};
 ghost use Rattle.xd_journal.specs.Said.{is_breach};
-ghost use Rattle.xd_drive.specs.Marks.{marked_heard, marked_started, may_tell};
 ghost use Rattle.xd_trace.specs.Noted.{noted};
-ghost use Rattle.xd_group.specs.Diaries.{diary_tells};
-ghost use Rattle.xd_journal.specs.declared.entry.Entry.{Entry};
-ghost use Rattle.xd_journal.specs.declared.news.News.{News};
+ghost use Rattle.xd_group.specs.Diaries.{NotedOnlyNews, diary_tells};
 ghost use Rattle.xd_starts.specs.Children.{is_buried, is_killed_and_reaped, starts_told};
 ghost use Rattle.xd_group.specs.InStep.{ChildrenInStep};
 ghost use Rattle.xd_group.specs.Kills.{KilledSo};
-ghost use Rattle.xd_group_peer.specs.PeerView.{losses_of};
+ghost use Rattle.xd_group_peer.specs.PeerView.{breaks_of};
 ghost use Rattle.xd_group.specs.Tells.{IsStarted, marks_told};
 
 use crate::diary::Diary;
-use crate::group::{Group, Step, cut_of};
+use crate::group::{Group, HubHeard, doomed_at};
 use std::alloc::Global;
 use std::snapshot::Snapshot;
 use std::sync::Wait;
@@ -29,7 +24,7 @@ use xd_journal::{Entry, News};
 use xd_link::{Place, Starter};
 use xd_links::Links;
 use xd_reader::Reader;
-use xd_starts::{Children, Opened};
+use xd_starts::{Opened, Starts};
 
 /// How many items the mailbox of a link has room for.
 const ROOM: usize = 8;
@@ -38,16 +33,16 @@ const ROOM: usize = 8;
 /// It owns the starter and the crew; who is done with it takes it apart.
 pub struct GatewayHub<St: Starter, C: Crew<Reader<St::Src>>> {
     pub places: Vec<Place>,
-    pub children: Children<St>,
+    pub starts: Starts<St>,
     pub group: Group<St::Src, St::Snk, C>,
     ghost in_step: { group.is_whole ≡ true →
-        ∥ ChildrenInStep places.items (starts_told (St.begun children.first.value))
-        (starts_told (St.begun children.starter)) children.children.items
-        (noted group.diary.calls) group.diary.fates.items ∥₁ },
+        ∥ ChildrenInStep places.items (starts_told (St.begun starts.first.value))
+        (starts_told (St.begun starts.starter)) starts.children.items
+        (noted group.diary.calls) group.diary.linkages.items ∥₁ },
     ghost kills: { group.is_whole ≡ true →
-        ∥ KilledSo children.children.items
-        (noted group.diary.calls) group.diary.workers.items group.diary.fates.items
-        (losses_of group.peers.items) ∥₁ },
+        ∥ KilledSo starts.children.items
+        (noted group.diary.calls) group.diary.workers.items group.diary.linkages.items
+        (breaks_of group.peers.items) ∥₁ },
 }
 
 impl<St: Starter, C: Crew<Reader<St::Src>>> GatewayHub<St, C> {
@@ -61,8 +56,8 @@ impl<St: Starter, C: Crew<Reader<St::Src>>> GatewayHub<St, C> {
     ) -> Result<GatewayHub<St, C>, OutOfMemory>
         requires short { length (encode_utf8_all call.suite) ≤ 65536 }
         ensures places { IfOk result (λ h. h.places ≡ places) }
-        ensures starter { IfOk result (λ h. (h.children.starter ≡ starter)
-            × (h.children.first.value ≡ starter)) }
+        ensures starter { IfOk result (λ h. (h.starts.starter ≡ starter)
+            × (h.starts.first.value ≡ starter)) }
         ensures crew { IfOk result (λ h. (h.group.links.crew ≡ crew)
             × (h.group.first.value ≡ crew)) }
         ensures call { IfOk result (λ h. h.group.call ≡ call) }
@@ -75,7 +70,7 @@ impl<St: Starter, C: Crew<Reader<St::Src>>> GatewayHub<St, C> {
         let links = Links::new(alloc, crew, ROOM)?;
         Ok(GatewayHub {
             places,
-            children: Children::new(alloc, starter),
+            starts: Starts::new(alloc, starter),
             group: Group {
                 links,
                 first,
@@ -90,82 +85,73 @@ impl<St: Starter, C: Crew<Reader<St::Src>>> GatewayHub<St, C> {
 
     // Waits for the children that were killed, so that nothing is kept of them while the hub waits for news.
     fn bury<R: Wait>(&mut self, rt: &R)
-        ensures buried { list_all is_buried self.new.children.children.items ≡ true }
+        ensures buried { list_all is_buried self.new.starts.children.items ≡ true }
         ensures group { self.new.group ≡ self.old.group }
-        ensures first { (self.new.places ≡ self.old.places)
-            × (self.new.children.first ≡ self.old.children.first) }
+        ensures made { (self.new.group.call ≡ self.old.group.call)
+            × (self.new.places ≡ self.old.places)
+            × (self.new.starts.first ≡ self.old.starts.first)
+            × (self.new.group.first ≡ self.old.group.first) }
     {
-        self.children.bury(rt);
+        self.starts.bury(rt);
     }
 
     // Takes an item of a link, where no child that was killed is still to be waited for.
-    fn take<R: Wait>(&mut self, rt: &R) -> Result<Option<News>, OutOfMemory>
-        requires buried { list_all is_buried self.old.children.children.items ≡ true }
+    fn hear_item<R: Wait>(&mut self, rt: &R) -> Result<Option<News>, OutOfMemory>
+        requires buried { list_all is_buried self.old.starts.children.items ≡ true }
         requires none_waits { self.old.group.is_whole ≡ true →
             self.old.group.diary.waiting.items ≡ [] }
         ensures started { IfOk result (λ r.
             IfSome r (λ n. IsStarted (noted self.old.group.diary.calls) n.worker)) }
-        ensures given { IfOk result (λ r.
-            IfSome r (λ n. noted self.new.group.diary.given ≡ noted self.old.group.diary.given
-            ++ n ∷ [])) }
+        ensures gave { IfOk result (λ r. NotedOnlyNews r self.old.group.diary self.new.group.diary) }
         ensures no_breach { IfOk result (λ r. IfSome r (λ n. is_breach n.what ≡ false)) }
-        ensures silent { IfOk result (λ r.
-            IfNone r (noted self.new.group.diary.given ≡ noted self.old.group.diary.given)) }
-        ensures waiting { self.new.group.diary.waiting ≡ self.old.group.diary.waiting }
-        ensures calls { noted self.new.group.diary.calls ≡ noted self.old.group.diary.calls }
         ensures whole { OnOk result (self.new.group.is_whole ≡ self.old.group.is_whole) }
-        ensures made { self.new.group.call ≡ self.old.group.call }
-        ensures first { (self.new.places ≡ self.old.places)
-            × (self.new.children.first ≡ self.old.children.first)
+        ensures made { (self.new.group.call ≡ self.old.group.call)
+            × (self.new.places ≡ self.old.places)
+            × (self.new.starts.first ≡ self.old.starts.first)
             × (self.new.group.first ≡ self.old.group.first) }
     {
-        let Step { news, cut } = self.group.step(rt)?;
-        self.children.cut(cut);
+        let HubHeard { news, doomed } = self.group.hear(rt)?;
+        self.starts.kill_if_any(doomed);
         Ok(news)
     }
 
     // Waits for the children that were killed, and takes an item of a link.
-    fn step<R: Wait>(&mut self, rt: &R) -> Result<Option<News>, OutOfMemory>
+    fn hear<R: Wait>(&mut self, rt: &R) -> Result<Option<News>, OutOfMemory>
         requires none_waits { self.old.group.is_whole ≡ true →
             self.old.group.diary.waiting.items ≡ [] }
         ensures started { IfOk result (λ r.
             IfSome r (λ n. IsStarted (noted self.old.group.diary.calls) n.worker)) }
-        ensures given { IfOk result (λ r.
-            IfSome r (λ n. noted self.new.group.diary.given ≡ noted self.old.group.diary.given
-            ++ n ∷ [])) }
+        ensures gave { IfOk result (λ r. NotedOnlyNews r self.old.group.diary self.new.group.diary) }
         ensures no_breach { IfOk result (λ r. IfSome r (λ n. is_breach n.what ≡ false)) }
-        ensures silent { IfOk result (λ r.
-            IfNone r (noted self.new.group.diary.given ≡ noted self.old.group.diary.given)) }
-        ensures waiting { self.new.group.diary.waiting ≡ self.old.group.diary.waiting }
-        ensures calls { noted self.new.group.diary.calls ≡ noted self.old.group.diary.calls }
         ensures whole { OnOk result (self.new.group.is_whole ≡ self.old.group.is_whole) }
-        ensures made { self.new.group.call ≡ self.old.group.call }
-        ensures first { (self.new.places ≡ self.old.places)
-            × (self.new.children.first ≡ self.old.children.first)
+        ensures made { (self.new.group.call ≡ self.old.group.call)
+            × (self.new.places ≡ self.old.places)
+            × (self.new.starts.first ≡ self.old.starts.first)
             × (self.new.group.first ≡ self.old.group.first) }
     {
         self.bury(rt);
-        let news = self.take(rt)?;
+        let news = self.hear_item(rt)?;
         Ok(news)
     }
 
     /// Where memory ran out: kills each child, then waits for each that is left. From then on the hub is only to be taken
     /// apart.
     pub fn abandon<R: Wait>(&mut self, rt: &R)
-        ensures over { list_all is_killed_and_reaped self.new.children.children.items ≡ true }
-        ensures first { (self.new.places ≡ self.old.places)
-            × (self.new.children.first ≡ self.old.children.first)
+        ensures over { list_all is_killed_and_reaped self.new.starts.children.items ≡ true }
+        ensures made { (self.new.group.call ≡ self.old.group.call)
+            × (self.new.places ≡ self.old.places)
+            × (self.new.starts.first ≡ self.old.starts.first)
             × (self.new.group.first ≡ self.old.group.first) }
     {
         self.group.is_whole = false;
-        self.children.abandon(rt);
+        self.starts.abandon(rt);
     }
 }
 
 impl<St: Starter, C: Crew<Reader<St::Src>>> Hub for GatewayHub<St, C> {
     type Made = (WorkerCall, Vec<Place>, Snapshot<St>, Snapshot<C>);
 
-    ghost made = { λ h. (h.group.call, h.places, h.children.first, h.group.first) };
+    ghost made = { λ h. (h.group.call, h.places, h.starts.first, h.group.first) };
 
     ghost slots = { λ m. vec_len m.1 };
 
@@ -181,31 +167,13 @@ impl<St: Starter, C: Crew<Reader<St::Src>>> Hub for GatewayHub<St, C> {
         &self.group.diary
     }
 
-    fn start(&mut self, alloc: Global, worker: u32, slot: u32) -> Result<(), OutOfMemory>
-        requires new { (marks_told (noted self.old.group.diary.calls)
-            (noted self.old.group.diary.given) worker).started ≡ false }
-        requires slot { slot < vec_len self.old.places }
-        ensures marks { OnOk result ((w : ℕ) →
-            marks_told (noted self.new.group.diary.calls)
-            (noted self.new.group.diary.given) w ≡ marked_started worker w
-            (marks_told (noted self.old.group.diary.calls) (noted self.old.group.diary.given) w)) }
-        ensures called { OnOk result
-            (noted self.new.group.diary.calls ≡ noted self.old.group.diary.calls
-            ++ Start worker slot ∷ []) }
-        ensures given { OnOk result
-            (noted self.new.group.diary.given ≡ noted self.old.group.diary.given) }
-        ensures first { (self.new.places ≡ self.old.places)
-            × (self.new.children.first ≡ self.old.children.first)
-            × (self.new.group.first ≡ self.old.group.first) }
-        ensures whole { OnOk result (self.new.group.is_whole ≡ self.old.group.is_whole) }
-        ensures made { self.new.group.call ≡ self.old.group.call }
-    {
-        let number = self.children.children.len();
-        match self.children.start(alloc, &self.places[slot as usize])? {
+    fn start(&mut self, alloc: Global, worker: u32, slot: u32) -> Result<(), OutOfMemory> {
+        let number = self.starts.children.len();
+        match self.starts.start(alloc, &self.places[slot as usize])? {
             Some(opened) => {
                 let Opened { source, sink } = opened;
-                let seat = self.group.open(alloc, worker, slot, source, sink)?;
-                self.children.cut(cut_of(seat.is_cut, number));
+                let link = self.group.open(alloc, worker, slot, source, sink)?;
+                self.starts.kill_if_any(doomed_at(link.is_doomed, number));
                 Ok(())
             }
             None => {
@@ -215,73 +183,23 @@ impl<St: Starter, C: Crew<Reader<St::Src>>> Hub for GatewayHub<St, C> {
         }
     }
 
-    fn say(&mut self, alloc: Global, worker: u32, order: &Entry) -> Result<(), OutOfMemory>
-        requires order { is_order worker order.now ≡ true }
-        requires told { may_tell (marks_told (noted self.old.group.diary.calls)
-            (noted self.old.group.diary.given) worker) ≡ true }
-        ensures marks { OnOk result ((w : ℕ) →
-            marks_told (noted self.new.group.diary.calls)
-            (noted self.new.group.diary.given) w ≡ marks_told (noted self.old.group.diary.calls)
-            (noted self.old.group.diary.given) w) }
-        ensures called { OnOk result
-            (noted self.new.group.diary.calls ≡ noted self.old.group.diary.calls
-            ++ order.now ∷ []) }
-        ensures given { OnOk result
-            (noted self.new.group.diary.given ≡ noted self.old.group.diary.given) }
-        ensures first { (self.new.places ≡ self.old.places)
-            × (self.new.children.first ≡ self.old.children.first)
-            × (self.new.group.first ≡ self.old.group.first) }
-        ensures whole { OnOk result (self.new.group.is_whole ≡ self.old.group.is_whole) }
-        ensures made { self.new.group.call ≡ self.old.group.call }
-    {
-        let cut = self.group.say(alloc, worker, order)?;
-        self.children.cut(cut);
+    fn say(&mut self, alloc: Global, worker: u32, order: &Entry) -> Result<(), OutOfMemory> {
+        let doomed = self.group.say(alloc, worker, order)?;
+        self.starts.kill_if_any(doomed);
         Ok(())
     }
 
-    fn kill(&mut self, worker: u32)
-        requires started { (marks_told (noted self.old.group.diary.calls)
-            (noted self.old.group.diary.given) worker).started ≡ true }
-        requires once { (marks_told (noted self.old.group.diary.calls)
-            (noted self.old.group.diary.given) worker).killed ≡ false }
-        ensures called { noted self.new.group.diary.calls ≡ noted self.old.group.diary.calls
-            ++ Kill worker ∷ [] }
-        ensures given { noted self.new.group.diary.given ≡ noted self.old.group.diary.given }
-        ensures first { (self.new.places ≡ self.old.places)
-            × (self.new.children.first ≡ self.old.children.first)
-            × (self.new.group.first ≡ self.old.group.first) }
-        ensures whole { self.new.group.is_whole ≡ self.old.group.is_whole }
-        ensures made { self.new.group.call ≡ self.old.group.call }
-    {
-        let cut = self.group.kill(worker);
-        self.children.cut(cut);
+    fn kill(&mut self, worker: u32) {
+        let doomed = self.group.kill(worker);
+        self.starts.kill_if_any(doomed);
     }
 
-    fn next<R: Wait>(&mut self, rt: &R, _alloc: Global) -> Result<News, OutOfMemory>
-        requires someone { (w : ℕ)
-            × ((marks_told (noted self.old.group.diary.calls)
-            (noted self.old.group.diary.given) w).started ≡ true) }
-        ensures started { IfOk result (λ n. IsStarted (noted self.old.group.diary.calls) n.worker) }
-        ensures no_breach { IfOk result (λ n. is_breach n.what ≡ false) }
-        ensures marks { IfOk result (λ n. (w : ℕ) →
-            marks_told (noted self.new.group.diary.calls)
-            (noted self.new.group.diary.given) w ≡ marked_heard n w
-            (marks_told (noted self.old.group.diary.calls) (noted self.old.group.diary.given) w)) }
-        ensures given { IfOk result (λ n.
-            noted self.new.group.diary.given ≡ noted self.old.group.diary.given ++ n ∷ []) }
-        ensures calls { OnOk result
-            (noted self.new.group.diary.calls ≡ noted self.old.group.diary.calls) }
-        ensures first { (self.new.places ≡ self.old.places)
-            × (self.new.children.first ≡ self.old.children.first)
-            × (self.new.group.first ≡ self.old.group.first) }
-        ensures whole { OnOk result (self.new.group.is_whole ≡ self.old.group.is_whole) }
-        ensures made { self.new.group.call ≡ self.old.group.call }
-    {
+    fn next<R: Wait>(&mut self, rt: &R, _alloc: Global) -> Result<News, OutOfMemory> {
         if let Some(news) = self.group.next_unlinked() {
             return Ok(news);
         }
         for _ in rt.forever() {
-            if let Some(news) = self.step(rt)? {
+            if let Some(news) = self.hear(rt)? {
                 return Ok(news);
             }
         }

@@ -4,16 +4,16 @@
 
 mod closing;
 mod diary;
-mod fate;
 mod finish;
 mod gateway_hub;
 mod group;
+mod linkage;
 mod opening;
 mod peers;
 mod spare;
 
 pub use diary::Diary;
-pub use fate::Fate;
 pub use gateway_hub::GatewayHub;
 pub use group::Group;
+pub use linkage::Linkage;
 pub use spare::Spare;

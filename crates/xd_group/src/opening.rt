@@ -1,7 +1,7 @@
 // How a worker is started: at its link, or without one.
 
-use crate::fate::Fate;
 use crate::group::Group;
+use crate::linkage::Linkage;
 use crate::peers::{push_none, push_peer};
 use crate::spare::{Spare, keep};
 use std::alloc::Global;
@@ -14,9 +14,9 @@ use xd_reader::Reader;
 
 /// What became of a start that has a link, and whether its child is to be killed.
 #[derive(Clone, Copy, Debug)]
-pub(crate) struct Seat {
-    pub fate: Fate,
-    pub is_cut: bool,
+pub(crate) struct NewLink {
+    pub linkage: Linkage,
+    pub is_doomed: bool,
 }
 
 impl<S: Source + Drop, N: Sink + Drop, C: Crew<Reader<S>>> Group<S, N, C> {
@@ -25,17 +25,20 @@ impl<S: Source + Drop, N: Sink + Drop, C: Crew<Reader<S>>> Group<S, N, C> {
     ghost use Rattle.xd_links.specs.Runs.{news_of};
     ghost use Rattle.xd_trace.specs.Noted.{noted};
     ghost use Rattle.xd_post.specs.Mails.{mails};
-    ghost use Rattle.xd_group.specs.Fates.{is_linked, is_refused, has_link};
-    ghost use Rattle.xd_group_peer.specs.PeerView.{pages_of, losses_of};
+    ghost use Rattle.xd_group.specs.Linkages.{is_linked, is_refused, has_link};
+    ghost use Rattle.xd_group_peer.specs.PeerView.{pages_of, breaks_of};
     ghost use Rattle.xd_group_peer.specs.declared.worker_call.WorkerCall.{WorkerCall};
     ghost use Rattle.xd_edge.specs.Faults.{Counted};
     ghost use Rattle.xd_drive.specs.Performing.{was_started};
     ghost use Rattle.xd_link.specs.FreshLink.{unused};
-    ghost use Rattle.xd_journal.specs.declared.entry.Entry.TheVariants.{Start};
-    ghost use Rattle.xd_group.specs.declared.fate.Fate.{Fate};
-    ghost use Rattle.xd_group.specs.declared.fate.Fate.TheVariants.{Unlinked};
+    ghost use Rattle.xd_group.specs.declared.linkage.Linkage.{Linkage};
+    ghost use Rattle.xd_group.specs.declared.linkage.Linkage.TheVariants.{Unlinked};
     ghost use Rattle.xd_group_peer.specs.Pages.{taken_of_link, page_opened};
-    ghost use Rattle.xd_group.specs.Kills.{CutsLast};
+    ghost use Rattle.xd_group.specs.Kills.{DoomsLast};
+    ghost use Rattle.xd_group.specs.Diaries.{NotedStart};
+    ghost use Rattle.xd_group.specs.Unused.{Unused};
+    ghost use Rattle.xd_group_peer.specs.LinkRun.{link_of};
+    ghost use Rattle.xd_link.specs.Spring.{spring};
 
     // Starts a reader. The source comes back where the crew refused it.
     fn read(links: &mut Links<S, C>, source: S) -> Result<Option<S>, OutOfMemory>
@@ -58,45 +61,43 @@ impl<S: Source + Drop, N: Sink + Drop, C: Crew<Reader<S>>> Group<S, N, C> {
 
     // Calls the worker where its link is read, and keeps the link where its source came back. The link is to be killed where
     // nobody reads it, and where the call could not be written.
-    fn seat(
+    fn keep_link(
         peers: &mut Vec<Option<Peer<N>>>,
         spares: &mut Vec<Option<Spare<S, N>>>,
         alloc: Global,
         back: Option<S>,
         sink: N,
         call: &WorkerCall,
-    ) -> Result<Seat, OutOfMemory>
-        requires nothing_given { IfSome back (λ source.
-            IfSome (S.supply source) (λ s. s.given ≡ [])) }
-        requires no_reads { IfSome back (λ source. S.faults source ≡ 0) }
-        requires nothing_taken { IfSome (N.sunk sink) (λ s. s ≡ unused) }
-        requires no_writes { N.faults sink ≡ 0 }
+    ) -> Result<NewLink, OutOfMemory>
+        requires unread { IfSome back (λ source.
+            (IfSome (S.supply source) (λ s. s.given ≡ [])) × (S.faults source ≡ 0)) }
+        requires unwritten { (IfSome (N.sunk sink) (λ s. s ≡ unused)) × (N.faults sink ≡ 0) }
         requires short { length (encode_utf8_all call.now.suite) ≤ 65536 }
-        ensures linked { IfOk result (λ r. is_linked r.fate ≡ is_none back) }
-        ensures started { IfOk result (λ r. has_link r.fate ≡ true) }
+        ensures linked { IfOk result (λ r. is_linked r.linkage ≡ is_none back) }
+        ensures started { IfOk result (λ r. has_link r.linkage ≡ true) }
         ensures pages { OnOk result
             (pages_of peers.new.items ≡ pages_of peers.old.items
             ++ page_opened call.now (is_none back) ∷ []) }
-        ensures cut { IfOk result (λ r.
-            CutsLast r.fate r.is_cut (losses_of peers.old.items) (losses_of peers.new.items)) }
+        ensures doomed { IfOk result (λ r.
+            DoomsLast r.linkage r.is_doomed (breaks_of peers.old.items) (breaks_of peers.new.items)) }
         ensures kept { IfOk result (λ r.
-            map is_some spares.new.items ≡ map is_some spares.old.items ++ is_refused r.fate ∷ []) }
+            map is_some spares.new.items ≡ map is_some spares.old.items ++ is_refused r.linkage ∷ []) }
     {
         match back {
             None => {
                 keep(spares, None)?;
-                let is_cut = push_peer(peers, alloc, sink, call)?;
-                Ok(Seat {
-                    fate: Fate::Linked,
-                    is_cut,
+                let is_doomed = push_peer(peers, alloc, sink, call)?;
+                Ok(NewLink {
+                    linkage: Linkage::Linked,
+                    is_doomed,
                 })
             }
             Some(source) => {
                 keep(spares, Some(Spare { source, sink }))?;
                 push_none(peers)?;
-                Ok(Seat {
-                    fate: Fate::Refused,
-                    is_cut: true,
+                Ok(NewLink {
+                    linkage: Linkage::Refused,
+                    is_doomed: true,
                 })
             }
         }
@@ -110,27 +111,20 @@ impl<S: Source + Drop, N: Sink + Drop, C: Crew<Reader<S>>> Group<S, N, C> {
         slot: u32,
         source: S,
         sink: N,
-    ) -> Result<Seat, OutOfMemory>
+    ) -> Result<NewLink, OutOfMemory>
         requires new { was_started worker (noted self.old.diary.calls) ≡ false }
-        requires nothing_given { IfSome (S.supply source) (λ s. s.given ≡ []) }
-        requires no_reads { S.faults source ≡ 0 }
-        requires nothing_taken { IfSome (N.sunk sink) (λ s. s ≡ unused) }
-        requires no_writes { N.faults sink ≡ 0 }
-        ensures called { OnOk result
-            (noted self.new.diary.calls ≡ noted self.old.diary.calls ++ Start worker slot ∷ []) }
-        ensures given { OnOk result (noted self.new.diary.given ≡ noted self.old.diary.given) }
-        ensures workers { OnOk result
-            (self.new.diary.workers.items ≡ self.old.diary.workers.items ++ worker ∷ []) }
-        ensures fates { IfOk result (λ r.
-            self.new.diary.fates.items ≡ self.old.diary.fates.items ++ r.fate ∷ []) }
-        ensures started { IfOk result (λ r. has_link r.fate ≡ true) }
+        requires unused { Unused (link_of
+            (spring (S.supply source) (S.is_ended source) (S.faults source)) (N.sunk sink)
+            (N.faults sink)) }
+        ensures took { IfOk result (λ r.
+            NotedStart worker slot r.linkage self.old.diary self.new.diary) }
+        ensures started { IfOk result (λ r. has_link r.linkage ≡ true) }
         ensures whole { OnOk result (self.new.is_whole ≡ self.old.is_whole) }
         ensures over { OnErr result (self.new.is_whole ≡ false) }
-        ensures cut { IfOk result (λ r.
-            CutsLast r.fate r.is_cut (losses_of self.old.peers.items)
-            (losses_of self.new.peers.items)) }
-        ensures made { (self.new.call ≡ self.old.call)
-            × (self.new.first ≡ self.old.first) }
+        ensures doomed { IfOk result (λ r.
+            DoomsLast r.linkage r.is_doomed (breaks_of self.old.peers.items)
+            (breaks_of self.new.peers.items)) }
+        ensures made { (self.new.call ≡ self.old.call) × (self.new.first ≡ self.old.first) }
     {
         let was_whole = self.is_whole;
         self.is_whole = false;
@@ -138,7 +132,7 @@ impl<S: Source + Drop, N: Sink + Drop, C: Crew<Reader<S>>> Group<S, N, C> {
             return Err(OutOfMemory);
         };
         let back = Self::read(&mut self.links, source)?;
-        let seat = Self::seat(
+        let link = Self::keep_link(
             &mut self.peers,
             &mut self.spares,
             alloc,
@@ -146,28 +140,22 @@ impl<S: Source + Drop, N: Sink + Drop, C: Crew<Reader<S>>> Group<S, N, C> {
             sink,
             &self.call,
         )?;
-        self.diary.note_start(worker, slot, seat.fate)?;
-        self.diary.note_unlinked(number, seat.fate)?;
+        self.diary.note_start(worker, slot, link.linkage)?;
+        self.diary.note_unlinked(number, link.linkage)?;
         self.is_whole = was_whole;
-        Ok(seat)
+        Ok(link)
     }
 
     /// Starts a worker whose link was not started.
     pub fn skip(&mut self, worker: u32, slot: u32) -> Result<(), OutOfMemory>
         requires new { was_started worker (noted self.old.diary.calls) ≡ false }
-        ensures called { OnOk result
-            (noted self.new.diary.calls ≡ noted self.old.diary.calls ++ Start worker slot ∷ []) }
-        ensures given { OnOk result (noted self.new.diary.given ≡ noted self.old.diary.given) }
-        ensures workers { OnOk result
-            (self.new.diary.workers.items ≡ self.old.diary.workers.items ++ worker ∷ []) }
-        ensures fates { OnOk result
-            (self.new.diary.fates.items ≡ self.old.diary.fates.items ++ Unlinked ∷ []) }
+        ensures took { OnOk result
+            (NotedStart worker slot Unlinked self.old.diary self.new.diary) }
         ensures whole { OnOk result (self.new.is_whole ≡ self.old.is_whole) }
         ensures over { OnErr result (self.new.is_whole ≡ false) }
-        ensures lost { OnOk result
-            (losses_of self.new.peers.items ≡ losses_of self.old.peers.items ++ false ∷ []) }
-        ensures made { (self.new.call ≡ self.old.call)
-            × (self.new.first ≡ self.old.first) }
+        ensures broken { OnOk result
+            (breaks_of self.new.peers.items ≡ breaks_of self.old.peers.items ++ false ∷ []) }
+        ensures made { (self.new.call ≡ self.old.call) × (self.new.first ≡ self.old.first) }
     {
         let was_whole = self.is_whole;
         self.is_whole = false;
@@ -180,8 +168,8 @@ impl<S: Source + Drop, N: Sink + Drop, C: Crew<Reader<S>>> Group<S, N, C> {
         self.links.skip()?;
         push_none(&mut self.peers)?;
         keep(&mut self.spares, None)?;
-        self.diary.note_start(worker, slot, Fate::Unlinked)?;
-        self.diary.note_unlinked(number, Fate::Unlinked)?;
+        self.diary.note_start(worker, slot, Linkage::Unlinked)?;
+        self.diary.note_unlinked(number, Linkage::Unlinked)?;
         self.is_whole = was_whole;
         Ok(())
     }

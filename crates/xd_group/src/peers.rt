@@ -7,8 +7,8 @@ ghost use Rattle.xd_group_peer.specs.Ends.{EndsSo};
 ghost use Rattle.xd_group_peer.specs.Pages.{HeardAt, IsHeardAt, IsToldAt, Page, ToldAt, page_opened};
 ghost use Rattle.xd_link.specs.FreshLink.{unused};
 ghost use Rattle.xd_group.specs.inner.Late.{IsLateAt, LateAt};
-ghost use Rattle.xd_group.specs.Kills.{KeepsLost, Loses};
-ghost use Rattle.xd_group_peer.specs.PeerView.{ends_of, has_ended, losses_of, page_by, pages_of};
+ghost use Rattle.xd_group.specs.Kills.{StaysBroken, Breaks};
+ghost use Rattle.xd_group_peer.specs.PeerView.{ends_of, has_ended, breaks_of, page_by, pages_of};
 ghost use Rattle.std.specs.Bool.{then_some};
 ghost use Rattle.std.specs.List.{list_all};
 
@@ -29,19 +29,16 @@ pub fn tell_at<N: Sink + Drop>(
     requires told { ∥ IsToldAt (pages_of peers.old.items) at ∥₁ }
     ensures told { OnOk result
         (ToldAt order.now at (pages_of peers.old.items) (pages_of peers.new.items)) }
-    ensures seats { OnOk result
+    ensures linked { OnOk result
         (map is_some (pages_of peers.new.items) ≡ map is_some (pages_of peers.old.items)) }
-    ensures lost { IfOk result (λ b.
-        Loses (then_some b at) (losses_of peers.old.items) (losses_of peers.new.items)) }
+    ensures broken { IfOk result (λ b.
+        Breaks (then_some b at) (breaks_of peers.old.items) (breaks_of peers.new.items)) }
 {
-    if at >= peers.len() {
-        unreachable!()
-    }
     let Some(peer) = &mut peers[at] else {
         unreachable!()
     };
-    let is_lost = peer.tell(alloc, order)?;
-    Ok(is_lost)
+    let has_broken = peer.tell(alloc, order)?;
+    Ok(has_broken)
 }
 
 /// Takes an item of the link at the place.
@@ -54,14 +51,11 @@ pub fn hear_at<N: Sink + Drop>(
     ensures heard { IfOk result (λ r.
         HeardAt item r.what at (pages_of peers.old.items) (pages_of peers.new.items)) }
     ensures no_breach { IfOk result (λ r. IfSome r.what (λ x. is_breach x ≡ false)) }
-    ensures seats { OnOk result
+    ensures linked { OnOk result
         (map is_some (pages_of peers.new.items) ≡ map is_some (pages_of peers.old.items)) }
-    ensures lost { IfOk result (λ r.
-        Loses (then_some r.is_cut at) (losses_of peers.old.items) (losses_of peers.new.items)) }
+    ensures broken { IfOk result (λ r.
+        Breaks (then_some r.has_broken at) (breaks_of peers.old.items) (breaks_of peers.new.items)) }
 {
-    if at >= peers.len() {
-        unreachable!()
-    }
     let Some(peer) = &mut peers[at] else {
         unreachable!()
     };
@@ -78,14 +72,11 @@ pub fn hear_late_at<N: Sink + Drop>(
     requires late { ∥ IsLateAt (pages_of peers.old.items) at ∥₁ }
     ensures late { OnOk result
         (LateAt item at (pages_of peers.old.items) (pages_of peers.new.items)) }
-    ensures seats { OnOk result
+    ensures linked { OnOk result
         (map is_some (pages_of peers.new.items) ≡ map is_some (pages_of peers.old.items)) }
     ensures keeps { OnOk result
-        (KeepsLost (losses_of peers.old.items) (losses_of peers.new.items)) }
+        (StaysBroken (breaks_of peers.old.items) (breaks_of peers.new.items)) }
 {
-    if at >= peers.len() {
-        unreachable!()
-    }
     let Some(peer) = &mut peers[at] else {
         unreachable!()
     };
@@ -122,21 +113,21 @@ pub fn push_peer<N: Sink + Drop>(
     ensures pages { OnOk result
         (pages_of peers.new.items ≡ pages_of peers.old.items
         ++ page_opened call.now true ∷ []) }
-    ensures lost { IfOk result (λ b.
-        losses_of peers.new.items ≡ losses_of peers.old.items ++ b ∷ []) }
+    ensures broken { IfOk result (λ b.
+        breaks_of peers.new.items ≡ breaks_of peers.old.items ++ b ∷ []) }
 {
     peers.reserve(1)?;
     let peer = Peer::begin(alloc, sink, call)?;
-    let is_lost = peer.is_lost;
+    let has_broken = peer.has_broken;
     peers.push_reserved(Some(peer));
-    Ok(is_lost)
+    Ok(has_broken)
 }
 
 /// Adds a number that has no link.
 pub fn push_none<N: Sink + Drop>(peers: &mut Vec<Option<Peer<N>>>) -> Result<(), OutOfMemory>
     ensures pages { OnOk result (pages_of peers.new.items ≡ pages_of peers.old.items ++ None ∷ []) }
-    ensures lost { OnOk result
-        (losses_of peers.new.items ≡ losses_of peers.old.items ++ false ∷ []) }
+    ensures broken { OnOk result
+        (breaks_of peers.new.items ≡ breaks_of peers.old.items ++ false ∷ []) }
 {
     peers.push(None)?;
     Ok(())
@@ -147,7 +138,7 @@ fn leave<N: Sink + Drop>(peer: Peer<N>) -> N
     requires known { peer.is_known ≡ true }
     requires ended { peer.is_ended ≡ true }
     ensures ends { ∥ EndsSo (page_by peer) (N.sunk result) (N.faults result) ∥₁ }
-    ensures lost { peer.is_lost ≡ true → 0 < N.faults result }
+    ensures broken { peer.has_broken ≡ true → 0 < N.faults result }
 {
     let Peer { gateway, .. } = peer;
     gateway.into_sink()
@@ -159,16 +150,13 @@ pub fn leave_at<N: Sink + Drop>(peers: &mut Vec<Option<Peer<N>>>, at: usize) -> 
     requires ended { slice_get (ends_of peers.old.items) at ≡ Some true }
     ensures ends { (p : Page) × (slice_get (pages_of peers.old.items) at ≡ Some (Some p))
         × ∥ EndsSo p (N.sunk result) (N.faults result) ∥₁ }
-    ensures lost { slice_get (losses_of peers.old.items) at ≡ Some true → 0 < N.faults result }
-    ensures others { (k : ℕ) → at < k → slice_get (losses_of peers.old.items) k ≡ Some true →
-        slice_get (losses_of peers.new.items) k ≡ Some true }
+    ensures broken { slice_get (breaks_of peers.old.items) at ≡ Some true → 0 < N.faults result }
+    ensures others { (k : ℕ) → at < k → slice_get (breaks_of peers.old.items) k ≡ Some true →
+        slice_get (breaks_of peers.new.items) k ≡ Some true }
     ensures ended { (k : ℕ) → at < k → slice_get (ends_of peers.old.items) k ≡ Some true →
         slice_get (ends_of peers.new.items) k ≡ Some true }
     ensures gone { pages_of peers.new.items ≡ slice_set (pages_of peers.old.items) at None }
 {
-    if at >= peers.len() {
-        unreachable!()
-    }
     match peers[at].take() {
         Some(peer) => leave(peer),
         None => unreachable!(),

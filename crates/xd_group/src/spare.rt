@@ -38,9 +38,6 @@ pub fn take_kept<A: Source + Drop, B: Sink + Drop>(
     ensures others { (k : ℕ) → at < k → slice_get (map is_some spares.old.items) k ≡ Some true →
         slice_get (map is_some spares.new.items) k ≡ Some true }
 {
-    if at >= spares.len() {
-        unreachable!()
-    }
     match spares[at].take() {
         Some(spare) => spare,
         None => unreachable!(),

@@ -34,7 +34,7 @@ use Rattle.xd_gateway.specs.declared.gateway.Gateway.{Gateway}
 use Rattle.xd_gateway.specs.Calls.{Wanted, call_tree, exec_by, exec_message, exec_wanted, item_message, item_wanted, kwargs_of, open_refusal, opening_wanted, say_wanted}
 use Rattle.xd_gateway.specs.Line.{GatewaySink, PrintsBytes, Says}
 use Rattle.xd_gateway.specs.Stands.{IsNew}
-use Rattle.xd_gateway.specs.View.{IsLost, SaysOn, is_broken, line_of, side_of}
+use Rattle.xd_gateway.specs.View.{IsBroken, SaysOn, is_broken, line_of, side_of}
 use Rattle.xd_report_phrases.specs.Names.{mode_text}
 use Rattle.xd_group_peer.specs.inner.Orders.{WritesOrder}
 use Rattle.xd_group_peer.specs.ToLink.{call_kwargs, call_message, order_message, payload_message}
@@ -120,12 +120,12 @@ says_order (Err f) wanted (Err (Opening g)) a b e n s = s.1
 says_order (Err f) wanted (Err OutOfMemory) a b e n s = absurd (n refl)
 
 module _ {K : Type 0} where
-  pub order_written : (sunk : K → Option Sunk) (faults : K → ℕ) (g k : Gateway K) (r : Result (Unit {0}) GatewayFault) (v : Tree) (e : Entry) → (is_broken g ≡ true → IsLost g k r) → SaysOn sunk faults g k (say_wanted 1 v) r
+  pub order_written : (sunk : K → Option Sunk) (faults : K → ℕ) (g k : Gateway K) (r : Result (Unit {0}) GatewayFault) (v : Tree) (e : Entry) → (is_broken g ≡ true → IsBroken g k r) → SaysOn sunk faults g k (say_wanted 1 v) r
       → Some v ≡ option_map order_tree (order_of e) → send_refusal (slot_of_number (side_of g) 1) ≡ None → (r ≡ Err OutOfMemory → ⊥) → WritesOrder (order_message e) (line_of sunk faults g) (line_of sunk faults k)
-  order_written sunk faults g k r v e lost says is can not = by (is_broken g) refl
+  order_written sunk faults g k r v e broken says is can not = by (is_broken g) refl
     where
       by : (b : Bool) → is_broken g ≡ b → WritesOrder (order_message e) (line_of sunk faults g) (line_of sunk faults k)
-      by true h = subst (λ (x : Gateway K). WritesOrder (order_message e) (line_of sunk faults g) (line_of sunk faults x)) (sym (lost h).1) (quiet_order (order_message e) (line_of sunk faults g) h)
+      by true h = subst (λ (x : Gateway K). WritesOrder (order_message e) (line_of sunk faults g) (line_of sunk faults x)) (sym (broken h).1) (quiet_order (order_message e) (line_of sunk faults g) h)
       by false h =
           subst (λ (o : Option MessageView). WritesOrder o (line_of sunk faults g) (line_of sunk faults k)) (sym (order_is e v is))
           (says_order (dumped v) (say_wanted 1 v (side_of g)) r (line_of sunk faults g) (line_of sunk faults k) (ap (λ (x : _). item_wanted 1 (sent_gives x (dumped v))) can) not (says h))

@@ -1,3 +1,4 @@
 pub mod Calls
+pub mod Paging
 pub mod PeerFacts
 pub mod Sending

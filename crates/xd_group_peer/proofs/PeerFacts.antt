@@ -303,29 +303,29 @@ plain_is_none stop.ReadFault = refl
 plain_is_none stop.OutOfMemory = refl
 
 -- that is the cause where a write had failed, and only there
-pub fault_is : (why : LinkStop) (lost : Bool) → is_send_fault (cause_by why lost) ≡ lost
+pub fault_is : (why : LinkStop) (broken : Bool) → is_send_fault (cause_by why broken) ≡ broken
 fault_is why true = refl
 fault_is why false = plain_is_none why
 
 -- no message's news say so
-pub message_faults : (o : Option What) (lost : Bool) → IsOfMessage o → list_any says_send_fault (option_to_list o) ≡ true → lost ≡ true
-message_faults None lost k h = absurd (cc h)
-message_faults (Some what.Ready) lost k h = absurd (cc h)
-message_faults (Some (what.Collected ids)) lost k h = absurd (cc h)
-message_faults (Some (what.LogStart n log)) lost k h = absurd (cc h)
-message_faults (Some (what.Piece log b)) lost k h = absurd (cc h)
-message_faults (Some (what.LogClosed log)) lost k h = absurd (cc h)
-message_faults (Some (what.Done n outcome ms)) lost k h = absurd (cc h)
-message_faults (Some (what.Back ns)) lost k h = absurd (cc h)
-message_faults (Some what.Finished) lost k h = absurd (cc h)
-message_faults (Some (what.Closed text)) lost k h = absurd (cc h)
-message_faults (Some what.Stray) lost k h = absurd (cc h)
-message_faults (Some (what.Gone cause)) lost k h = absurd k
-message_faults (Some what.NotStarted) lost k h = absurd k
+pub message_faults : (o : Option What) (broken : Bool) → IsOfMessage o → list_any says_send_fault (option_to_list o) ≡ true → broken ≡ true
+message_faults None broken k h = absurd (cc h)
+message_faults (Some what.Ready) broken k h = absurd (cc h)
+message_faults (Some (what.Collected ids)) broken k h = absurd (cc h)
+message_faults (Some (what.LogStart n log)) broken k h = absurd (cc h)
+message_faults (Some (what.Piece log b)) broken k h = absurd (cc h)
+message_faults (Some (what.LogClosed log)) broken k h = absurd (cc h)
+message_faults (Some (what.Done n outcome ms)) broken k h = absurd (cc h)
+message_faults (Some (what.Back ns)) broken k h = absurd (cc h)
+message_faults (Some what.Finished) broken k h = absurd (cc h)
+message_faults (Some (what.Closed text)) broken k h = absurd (cc h)
+message_faults (Some what.Stray) broken k h = absurd (cc h)
+message_faults (Some (what.Gone cause)) broken k h = absurd k
+message_faults (Some what.NotStarted) broken k h = absurd k
 
 -- the news of an end say so where a write had failed
-pub end_faults : (why : LinkStop) (lost : Bool) (c : Cause) → c ≡ cause_by why lost → list_any says_send_fault (what.Gone c ∷ []) ≡ true → lost ≡ true
-end_faults why lost c is h = sym (fault_is why lost) ∙ (ap is_send_fault (sym is) ∙ (sym (or_false (is_send_fault c)) ∙ h))
+pub end_faults : (why : LinkStop) (broken : Bool) (c : Cause) → c ≡ cause_by why broken → list_any says_send_fault (what.Gone c ∷ []) ≡ true → broken ≡ true
+end_faults why broken c is h = sym (fault_is why broken) ∙ (ap is_send_fault (sym is) ∙ (sym (or_false (is_send_fault c)) ∙ h))
 
 -- what was said and is said now says so only where a write failed
 pub faults_more : (said all : List What) (news : Option What) (l0 l1 : Bool) → all ≡ said ++ option_to_list news → (list_any says_send_fault said ≡ true → l0 ≡ true) → (list_any says_send_fault (option_to_list news) ≡ true → l0 ≡ true) → (l0 ≡ true → l1 ≡ true) → list_any says_send_fault all ≡ true → l1 ≡ true
@@ -346,50 +346,50 @@ last_same [] (y ∷ ys) a b h = absurd (not_empty ys b (cc h))
 last_same (x ∷ xs) [] a b h = absurd (not_empty xs a (sym (cc h)))
 last_same (x ∷ xs) (y ∷ ys) a b h = last_same xs ys a b (cc h)
 
-whole_end : (before : List What) (why : LinkStop) (lost : Bool) (ms : List MessageView) (sunk : Option Sunk) → (lost ≡ false → IfSome sunk (HandedOn ms)) → EndsWhole (before ++ what.Gone (cause_by why lost) ∷ []) ms sunk
-whole_end before why lost ms sunk handed all c e f =
-    let last : what.Gone (cause_by why lost) ≡ what.Gone c = last_same before all (what.Gone (cause_by why lost)) (what.Gone c) e in
-    let same : cause_by why lost ≡ c = cc last in
-    handed (sym (fault_is why lost) ∙ (ap is_send_fault same ∙ f))
+whole_end : (before : List What) (why : LinkStop) (broken : Bool) (ms : List MessageView) (sunk : Option Sunk) → (broken ≡ false → IfSome sunk (HandedOn ms)) → EndsWhole (before ++ what.Gone (cause_by why broken) ∷ []) ms sunk
+whole_end before why broken ms sunk handed all c e f =
+    let last : what.Gone (cause_by why broken) ≡ what.Gone c = last_same before all (what.Gone (cause_by why broken)) (what.Gone c) e in
+    let same : cause_by why broken ≡ c = cc last in
+    handed (sym (fault_is why broken) ∙ (ap is_send_fault same ∙ f))
 
 -- with an item of the link: where it has ended, by another cause than a failed send, all was handed on
-pub whole_taken : (was ended lost closed : Bool) (before : List What) (news : Option What) (ms : List MessageView) (s0 s1 : Option Sunk) (faults : ℕ) → StaysEnded was ended news
-    → EndsNow was ended lost news → (was ≡ true → ∥ EndsWhole before ms s0 ∥₁) → ∥ SentAs lost closed s0 faults ms ∥₁ → (IfSome s0 (HandedOn ms) → IfSome s1 (HandedOn ms))
+pub whole_taken : (was ended broken closed : Bool) (before : List What) (news : Option What) (ms : List MessageView) (s0 s1 : Option Sunk) (faults : ℕ) → StaysEnded was ended news
+    → EndsNow was ended broken news → (was ≡ true → ∥ EndsWhole before ms s0 ∥₁) → ∥ SentAs broken closed s0 faults ms ∥₁ → (IfSome s0 (HandedOn ms) → IfSome s1 (HandedOn ms))
     → ended ≡ true → ∥ EndsWhole (before ++ option_to_list news) ms s1 ∥₁
-whole_taken true ended lost closed before news ms s0 s1 faults stays ends whole sent more over =
+whole_taken true ended broken closed before news ms s0 s1 faults stays ends whole sent more over =
     let same : before ++ option_to_list news ≡ before = ap (λ (o : Option What). before ++ option_to_list o) ((stays refl).0) ∙ append-nil before in
     ∥∥₁_map (whole refl) (λ w all c e f. more (w all c (sym same ∙ e) f))
-whole_taken false ended lost closed before news ms s0 s1 faults stays ends whole sent more over =
+whole_taken false ended broken closed before news ms s0 s1 faults stays ends whole sent more over =
     let it = ends refl over in
     ∥∥₁_map sent
-    (λ s. subst (λ (o : Option What). EndsWhole (before ++ option_to_list o) ms s1) (sym it.1) (whole_end before it.0 lost ms s1 (λ f. more (all_handed s0 ms closed (s.whole f)))))
+    (λ s. subst (λ (o : Option What). EndsWhole (before ++ option_to_list o) ms s1) (sym it.1) (whole_end before it.0 broken ms s1 (λ f. more (all_handed s0 ms closed (s.whole f)))))
 
 -- a worker does not leave with the end of its link
-pub end_leaves : (was ended lost : Bool) (news : Option What) → StaysEnded was ended news → EndsNow was ended lost news → ended ≡ true → has_left (option_to_list news) ≡ false
-end_leaves true ended lost news stays ends over = ap (λ (o : Option What). has_left (option_to_list o)) ((stays refl).0)
-end_leaves false ended lost news stays ends over = ap (λ (o : Option What). has_left (option_to_list o)) ((ends refl over).1)
+pub end_leaves : (was ended broken : Bool) (news : Option What) → StaysEnded was ended news → EndsNow was ended broken news → ended ≡ true → has_left (option_to_list news) ≡ false
+end_leaves true ended broken news stays ends over = ap (λ (o : Option What). has_left (option_to_list o)) ((stays refl).0)
+end_leaves false ended broken news stays ends over = ap (λ (o : Option What). has_left (option_to_list o)) ((ends refl over).1)
 
 pub same_still : (call : WorkerCall) (told : List Entry) (said more : List What) → has_left more ≡ false → to_link call told said ≡ to_link call told (said ++ more)
 same_still call told said more f = same_link call told said (said ++ more) (sym (list_any-append is_farewell said more ∙ (ap (λ (b : Bool). has_left said || b) f ∙ or_false (has_left said))))
 
 -- so it is where an item was heard
-pub still_whole : (was ended lost closed : Bool) (call : WorkerCall) (told : List Entry) (said late : List What) (news : Option What) (s0 s1 : Option Sunk) (faults : ℕ) → is_nothing late ≡ true → StaysEnded was ended news
-    → EndsNow was ended lost news → (was ≡ true → ∥ EndsWhole (said ++ late) (to_link call told said) s0 ∥₁) → ∥ SentAs lost closed s0 faults (to_link call told said) ∥₁
+pub still_whole : (was ended broken closed : Bool) (call : WorkerCall) (told : List Entry) (said late : List What) (news : Option What) (s0 s1 : Option Sunk) (faults : ℕ) → is_nothing late ≡ true → StaysEnded was ended news
+    → EndsNow was ended broken news → (was ≡ true → ∥ EndsWhole (said ++ late) (to_link call told said) s0 ∥₁) → ∥ SentAs broken closed s0 faults (to_link call told said) ∥₁
     → ((m : List MessageView) → has_left (option_to_list news) ≡ false → IfSome s0 (HandedOn m) → IfSome s1 (HandedOn m)) → ended ≡ true
     → ∥ EndsWhole ((said ++ option_to_list news) ++ late) (to_link call told (said ++ option_to_list news)) s1 ∥₁
-still_whole was ended lost closed call told said late news s0 s1 faults nothing stays ends whole sent more over =
-    let left = end_leaves was ended lost news stays ends over in
+still_whole was ended broken closed call told said late news s0 s1 faults nothing stays ends whole sent more over =
+    let left = end_leaves was ended broken news stays ends over in
     subst (λ (l : List What). ∥ EndsWhole l (to_link call told (said ++ option_to_list news)) s1 ∥₁) (on_time said late (option_to_list news) nothing)
     (subst (λ (m : List MessageView). ∥ EndsWhole ((said ++ late) ++ option_to_list news) m s1 ∥₁) (same_still call told said (option_to_list news) left)
-    (whole_taken was ended lost closed (said ++ late) news (to_link call told said) s0 s1 faults stays ends whole sent (more (to_link call told said) left) over))
+    (whole_taken was ended broken closed (said ++ late) news (to_link call told said) s0 s1 faults stays ends whole sent (more (to_link call told said) left) over))
 
 -- and where one was heard late
-pub late_whole : (was ended lost closed : Bool) (said late : List What) (news : Option What) (ms : List MessageView) (s0 s1 : Option Sunk) (faults : ℕ) → StaysEnded was ended news
-    → EndsNow was ended lost news → (was ≡ true → ∥ EndsWhole (said ++ late) ms s0 ∥₁) → ∥ SentAs lost closed s0 faults ms ∥₁
+pub late_whole : (was ended broken closed : Bool) (said late : List What) (news : Option What) (ms : List MessageView) (s0 s1 : Option Sunk) (faults : ℕ) → StaysEnded was ended news
+    → EndsNow was ended broken news → (was ≡ true → ∥ EndsWhole (said ++ late) ms s0 ∥₁) → ∥ SentAs broken closed s0 faults ms ∥₁
     → (IfSome s0 (HandedOn ms) → IfSome s1 (HandedOn ms)) → ended ≡ true → ∥ EndsWhole (said ++ (late ++ option_to_list news)) ms s1 ∥₁
-late_whole was ended lost closed said late news ms s0 s1 faults stays ends whole sent more over =
+late_whole was ended broken closed said late news ms s0 s1 faults stays ends whole sent more over =
     subst (λ (l : List What). ∥ EndsWhole l ms s1 ∥₁) (append_assoc said late (option_to_list news))
-    (whole_taken was ended lost closed (said ++ late) news ms s0 s1 faults stays ends whole sent more over)
+    (whole_taken was ended broken closed (said ++ late) news ms s0 s1 faults stays ends whole sent more over)
 
 module _ {K : Type 0} where
   pub heard_kept : (g k : Gateway K) (ended b0 b1 : Bool) (taken : List LinkNews) (said : List What) → ((h : List Heard) → StandsForHeard g h → StandsForHeard k h) → (b0 ≡ true → b1 ≡ true) → HeardSo g ended b0 taken said → HeardSo k ended b1 taken said

@@ -42,7 +42,7 @@ StaysEnded was ended news = was ≡ true → (news ≡ None) × (ended ≡ true)
 
 -- a link that ends now is said to be gone, by whether a write had failed
 abbrev pub EndsNow : Bool → Bool → Bool → Option What → Type 0
-EndsNow was ended lost news = was ≡ false → ended ≡ true → (why : LinkStop) × (news ≡ Some (Gone (cause_by why lost)))
+EndsNow was ended broken news = was ≡ false → ended ≡ true → (why : LinkStop) × (news ≡ Some (Gone (cause_by why broken)))
 
 -- what a reader puts; the other items come from programs
 abbrev pub is_of_link : LinkNews → Bool

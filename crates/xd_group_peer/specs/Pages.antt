@@ -34,6 +34,10 @@ told_page e p = record { call = p.call; taken = p.taken; told = p.told ++ e ∷ 
 abbrev pub heard_page : LinkNews → Option What → Page → Page
 heard_page item what p = record { call = p.call; taken = p.taken ++ item ∷ []; told = p.told; said = p.said ++ option_to_list what; late = p.late; known = true }
 
+-- the page after one more item of its link, with all that was heard late by then
+abbrev pub late_page : LinkNews → List What → Page → Page
+late_page item late p = record { call = p.call; taken = p.taken ++ item ∷ []; told = p.told; said = p.said; late = late; known = true }
+
 -- what was taken of the link, where it has a page
 abbrev pub taken_of_link : Option Page → Option (List LinkNews)
 taken_of_link None = None

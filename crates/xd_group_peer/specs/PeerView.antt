@@ -33,10 +33,10 @@ module _ {N : Type 0} {g : _} where
   ends_of peers = map is_ended_at peers
 
   -- a write to the link failed
-  abbrev pub is_lost_at : Option (Peer N g) → Bool
-  is_lost_at None = false
-  is_lost_at (Some p) = p.is_lost
+  abbrev pub has_broken_at : Option (Peer N g) → Bool
+  has_broken_at None = false
+  has_broken_at (Some p) = p.has_broken
 
   -- of each peer whether a write to its link failed
-  abbrev pub losses_of : List (Option (Peer N g)) → List Bool
-  losses_of peers = map is_lost_at peers
+  abbrev pub breaks_of : List (Option (Peer N g)) → List Bool
+  breaks_of peers = map has_broken_at peers

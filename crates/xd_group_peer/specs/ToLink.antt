@@ -17,8 +17,8 @@ use Rattle.xd_gateway.specs.Calls.{exec_message, item_message, terminate_message
 use Rattle.xd_report_phrases.specs.Names.{mode_text}
 
 -- a call with the path of this suite, by this mode
-abbrev pub call_of : List ℕ → ModeKind → WorkerCall
-call_of suite mode = record { suite = suite; mode = mode }
+abbrev pub call_with : List ℕ → ModeKind → WorkerCall
+call_with suite mode = record { suite = suite; mode = mode }
 
 -- the keyword arguments of `run_tests`: the path of the suite, and the mode's word
 abbrev pub call_kwargs : WorkerCall → Pairs

@@ -73,7 +73,7 @@ pub fn call_worker<N: Sink + Drop>(
 ) -> Result<bool, OutOfMemory>
     requires short { length (encode_utf8_all call.now.suite) ≤ 65536 }
     requires new { IsNew gateway.old }
-    ensures lost { IfOk result (λ b. b ≡ is_broken gateway.new) }
+    ensures broken { IfOk result (λ b. b ≡ is_broken gateway.new) }
     ensures prints { OnOk result
         (PrintsOn N.sunk N.faults gateway.old gateway.new (frame (call_message call.now))) }
     ensures stands { OnOk result (StandsForHeard gateway.new []) }
@@ -94,7 +94,7 @@ pub fn write_order<N: Sink + Drop>(
     gateway: &mut Gateway<N>,
     value: &Value,
 ) -> Result<bool, OutOfMemory>
-    ensures lost { IfOk result (λ b. b ≡ is_broken gateway.new) }
+    ensures broken { IfOk result (λ b. b ≡ is_broken gateway.new) }
     ensures writes { (e : Entry) → Some (view value.now) ≡ option_map order_tree (order_of e) →
         send_refusal (slot_of_number (side_of gateway.old) 1) ≡ None
         → OnOk result (WritesOrder (order_message e) (line_of N.sunk N.faults gateway.old)
@@ -114,7 +114,7 @@ pub fn write_order<N: Sink + Drop>(
 
 /// Ends the worker. Says whether the sink failed, now or before.
 pub fn end_worker<N: Sink + Drop>(gateway: &mut Gateway<N>) -> bool
-    ensures lost { result ≡ is_broken gateway.new }
+    ensures broken { result ≡ is_broken gateway.new }
     ensures closes { ClosesOn N.sunk N.faults gateway.old gateway.new (frame terminate_message) }
     ensures stands { (h : List Heard) → StandsForHeard gateway.old h →
         StandsForHeard gateway.new h }
@@ -124,7 +124,7 @@ pub fn end_worker<N: Sink + Drop>(gateway: &mut Gateway<N>) -> bool
 
 /// Closes the link to the worker. Says whether the sink failed, now or before.
 pub fn close_link<N: Sink + Drop>(gateway: &mut Gateway<N>) -> bool
-    ensures lost { result ≡ is_broken gateway.new }
+    ensures broken { result ≡ is_broken gateway.new }
     ensures closes { ClosesNow (line_of N.sunk N.faults gateway.old)
         (line_of N.sunk N.faults gateway.new) }
     ensures stands { (h : List Heard) → StandsForHeard gateway.old h →

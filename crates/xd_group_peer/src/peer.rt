@@ -42,21 +42,21 @@ pub struct Peer<N: Sink + Drop> {
     /// What was heard when nothing was said any more.
     pub late: Trace<What>,
     /// A write failed.
-    pub is_lost: bool,
+    pub has_broken: bool,
     /// Its reader's end was taken.
     pub is_ended: bool,
     /// The sink was closed: the worker was told to end, or its reader's end was taken.
     pub is_closed: bool,
     pub is_known: bool,
-    ghost lost: { is_known ≡ true → is_lost ≡ is_broken gateway },
+    ghost broken: { is_known ≡ true → has_broken ≡ is_broken gateway },
     ghost closed: { is_known ≡ true → is_closed ≡ (has_left (noted said) || is_ended) },
     ghost heard: { is_known ≡ true →
-        ∥ HeardSo gateway is_ended is_lost (noted taken) (noted said ++ noted late) ∥₁ },
+        ∥ HeardSo gateway is_ended has_broken (noted taken) (noted said ++ noted late) ∥₁ },
     ghost sent: { is_known ≡ true →
-        ∥ SentAs is_lost is_closed (N.sunk (sink_of gateway)) (N.faults (sink_of gateway))
+        ∥ SentAs has_broken is_closed (N.sunk (sink_of gateway)) (N.faults (sink_of gateway))
         (to_link call.value (noted told) (noted said)) ∥₁ },
     ghost faults: { is_known ≡ true → list_any says_send_fault (noted said) ≡ true →
-        is_lost ≡ true },
+        has_broken ≡ true },
     ghost whole: { is_known ≡ true → is_ended ≡ true
         → ∥ EndsWhole (noted said ++ noted late)
         (to_link call.value (noted told) (noted said)) (N.sunk (sink_of gateway)) ∥₁ },
@@ -68,11 +68,11 @@ struct Judged {
     is_ended: bool,
 }
 
-fn cause_of(stop: LinkStop, is_lost: bool) -> Cause
-    ensures cause { result ≡ cause_by stop is_lost }
+fn cause_of(stop: LinkStop, has_broken: bool) -> Cause
+    ensures cause { result ≡ cause_by stop has_broken }
     ensures no_breach { is_breach (Gone result) ≡ false }
 {
-    if is_lost {
+    if has_broken {
         return Cause::SendFault;
     }
     plain_cause(stop)
@@ -93,20 +93,20 @@ fn plain_cause(stop: LinkStop) -> Cause
 fn judge<N: Sink + Drop>(
     gateway: &mut Gateway<N>,
     is_ended: bool,
-    is_lost: bool,
+    has_broken: bool,
     item: LinkNews,
 ) -> Result<Judged, OutOfMemory>
     ensures hears { (taken : List LinkNews) (said : List What) →
-        HeardSo gateway.old is_ended is_lost taken said →
-        IfOk result (λ r. HeardSo gateway.new r.is_ended is_lost (taken ++ item ∷ [])
+        HeardSo gateway.old is_ended has_broken taken said →
+        IfOk result (λ r. HeardSo gateway.new r.is_ended has_broken (taken ++ item ∷ [])
         (said ++ option_to_list r.news)) }
     ensures no_breach { IfOk result (λ r. IfSome r.news (λ x. is_breach x ≡ false)) }
     ensures sink { sink_of gateway.new ≡ sink_of gateway.old }
     ensures broken { is_broken gateway.new ≡ is_broken gateway.old }
     ensures past { IfOk result (λ r. StaysEnded is_ended r.is_ended r.news) }
-    ensures ends { IfOk result (λ r. EndsNow is_ended r.is_ended is_lost r.news) }
+    ensures ends { IfOk result (λ r. EndsNow is_ended r.is_ended has_broken r.news) }
     ensures faults { IfOk result (λ r. list_any says_send_fault (option_to_list r.news) ≡ true
-        → is_lost ≡ true) }
+        → has_broken ≡ true) }
 {
     if is_ended {
         return Ok(Judged {
@@ -124,7 +124,7 @@ fn judge<N: Sink + Drop>(
         }
         LinkNews::End(LinkStop::OutOfMemory) => Err(OutOfMemory),
         LinkNews::End(stop) => {
-            let why = cause_of(stop, is_lost);
+            let why = cause_of(stop, has_broken);
             Ok(Judged {
                 news: Some(What::Gone(why)),
                 is_ended: true,
@@ -159,7 +159,7 @@ fn note_heard(log: &mut Trace<What>, news: &Option<What>)
 #[derive(Drop)]
 struct Ended {
     is_closed: bool,
-    is_lost: bool,
+    has_broken: bool,
 }
 
 // Ends the worker after its last news, or closes the sink after the end of its link; one of these, once.
@@ -167,74 +167,78 @@ fn end_after<N: Sink + Drop>(
     gateway: &mut Gateway<N>,
     is_ended: bool,
     is_closed: bool,
-    is_lost: bool,
+    has_broken: bool,
     news: &Option<What>,
 ) -> Ended
     ensures closed { (said : List What) (was : Bool) → StaysEnded was is_ended news.now →
         is_closed ≡ (has_left said || was) →
         result.is_closed ≡ (has_left (said ++ option_to_list news.now) || is_ended) }
-    ensures lost { is_lost ≡ is_broken gateway.old → result.is_lost ≡ is_broken gateway.new }
+    ensures broken { has_broken ≡ is_broken gateway.old → result.has_broken ≡ is_broken gateway.new }
     ensures sent { (call : WorkerCall) (told : List Entry) (said : List What)
-        (was : Bool) → StaysEnded was is_ended news.now → is_lost ≡ is_broken gateway.old →
+        (was : Bool) → StaysEnded was is_ended news.now → has_broken ≡ is_broken gateway.old →
         is_closed ≡ (has_left said || was) →
-        SentAs is_lost is_closed (N.sunk (sink_of gateway.old)) (N.faults (sink_of gateway.old))
+        SentAs has_broken is_closed (N.sunk (sink_of gateway.old)) (N.faults (sink_of gateway.old))
         (to_link call told said)
-        → SentAs result.is_lost result.is_closed (N.sunk (sink_of gateway.new))
+        → SentAs result.has_broken result.is_closed (N.sunk (sink_of gateway.new))
         (N.faults (sink_of gateway.new))
         (to_link call told (said ++ option_to_list news.now)) }
-    ensures keeps { is_lost ≡ is_broken gateway.old → is_lost ≡ true → result.is_lost ≡ true }
+    ensures keeps { has_broken ≡ is_broken gateway.old → has_broken ≡ true → result.has_broken ≡ true }
     ensures whole { (messages : List MessageView) → has_left (option_to_list news.now) ≡ false
         → IfSome (N.sunk (sink_of gateway.old)) (HandedOn messages)
         → IfSome (N.sunk (sink_of gateway.new)) (HandedOn messages) }
     ensures heard { (ended : Bool) (taken : List LinkNews) (said : List What) →
-        is_lost ≡ is_broken gateway.old → HeardSo gateway.old ended is_lost taken said →
-        HeardSo gateway.new ended result.is_lost taken said }
+        has_broken ≡ is_broken gateway.old → HeardSo gateway.old ended has_broken taken said →
+        HeardSo gateway.new ended result.has_broken taken said }
 {
     if is_closed {
-        return Ended { is_closed, is_lost };
+        return Ended {
+            is_closed,
+            has_broken,
+        };
     }
     if is_farewell(news) {
-        let is_lost = end_worker(gateway);
+        let has_broken = end_worker(gateway);
         return Ended {
             is_closed: true,
-            is_lost,
+            has_broken,
         };
     }
     if is_ended {
-        let is_lost = close_link(gateway);
+        let has_broken = close_link(gateway);
         return Ended {
             is_closed: true,
-            is_lost,
+            has_broken,
         };
     }
-    Ended { is_closed, is_lost }
+    Ended {
+        is_closed,
+        has_broken,
+    }
 }
 
 /// What a link's item meant, and whether a write failed after it.
 #[derive(Drop)]
 pub struct HeardNews {
     pub what: Option<What>,
-    pub is_cut: bool,
+    pub has_broken: bool,
 }
 
 impl<N: Sink + Drop> Peer<N> {
+    ghost use Rattle.xd_group_peer.specs.PeerView.{page_by};
+    ghost use Rattle.xd_group_peer.specs.Pages.{first_page, heard_page, late_page, told_page};
+
     /// A link that the worker was called on.
     pub fn begin(alloc: Global, sink: N, call: &WorkerCall) -> Result<Peer<N>, OutOfMemory>
         requires nothing_taken { IfSome (N.sunk sink) (λ s. s ≡ unused) }
         requires short { length (encode_utf8_all call.now.suite) ≤ 65536 }
-        ensures call { IfOk result (λ p. p.call.value ≡ call.now) }
-        ensures taken { IfOk result (λ p. noted p.taken ≡ []) }
-        ensures told { IfOk result (λ p. noted p.told ≡ []) }
-        ensures said { IfOk result (λ p. noted p.said ≡ []) }
-        ensures late { IfOk result (λ p. noted p.late ≡ []) }
-        ensures known { IfOk result (λ p. p.is_known ≡ true) }
+        ensures page { IfOk result (λ p. page_by p ≡ first_page call.now) }
     {
         let taken = Trace::new(alloc)?;
         let told = Trace::new(alloc)?;
         let said = Trace::new(alloc)?;
         let late = Trace::new(alloc)?;
         let mut gateway = Gateway::new(alloc, Parity::Odd, sink);
-        let is_lost = call_worker(alloc, &mut gateway, call)?;
+        let has_broken = call_worker(alloc, &mut gateway, call)?;
         Ok(Peer {
             gateway,
             call: Snapshot::of(call),
@@ -242,7 +246,7 @@ impl<N: Sink + Drop> Peer<N> {
             told,
             said,
             late,
-            is_lost,
+            has_broken,
             is_ended: false,
             is_closed: false,
             is_known: true,
@@ -255,37 +259,27 @@ impl<N: Sink + Drop> Peer<N> {
         requires known { self.old.is_known ≡ true }
         requires on_time { is_nothing (noted self.old.late) ≡ true }
         requires going { list_any is_end (noted self.old.said) ≡ false }
-        ensures same { (self.new.call ≡ self.old.call)
-            × (noted self.new.taken ≡ noted self.old.taken) }
-        ensures told { OnOk result (noted self.new.told ≡ noted self.old.told ++ order.now ∷ []) }
-        ensures said { (noted self.new.said ≡ noted self.old.said)
-            × (noted self.new.late ≡ noted self.old.late) }
-        ensures lost { IfOk result (λ b. b ≡ self.new.is_lost) }
-        ensures keeps { OnOk result (self.old.is_lost ≡ true → self.new.is_lost ≡ true) }
-        ensures known { OnOk result (self.new.is_known ≡ true) }
+        ensures page { OnOk result (page_by self.new ≡ told_page order.now (page_by self.old)) }
+        ensures broken { IfOk result (λ b. b ≡ self.new.has_broken) }
+        ensures keeps { OnOk result (self.old.has_broken ≡ true → self.new.has_broken ≡ true) }
     {
         let value = order_value(alloc, order)?;
         self.is_known = false;
-        let is_lost = write_order(&mut self.gateway, &value)?;
+        let has_broken = write_order(&mut self.gateway, &value)?;
         self.told.note(order);
-        self.is_lost = is_lost;
+        self.has_broken = has_broken;
         self.is_known = true;
-        Ok(is_lost)
+        Ok(has_broken)
     }
 
     /// Takes an item of the link, and tells what it means; `None` where it is no news.
     pub fn hear(&mut self, item: LinkNews) -> Result<HeardNews, OutOfMemory>
         requires known { self.old.is_known ≡ true }
         requires on_time { is_nothing (noted self.old.late) ≡ true }
-        ensures same { (self.new.call ≡ self.old.call)
-            × (noted self.new.told ≡ noted self.old.told) }
-        ensures taken { OnOk result (noted self.new.taken ≡ noted self.old.taken ++ item ∷ []) }
-        ensures said { IfOk result (λ r.
-            noted self.new.said ≡ noted self.old.said ++ option_to_list r.what) }
-        ensures late { noted self.new.late ≡ noted self.old.late }
-        ensures lost { IfOk result (λ r. r.is_cut ≡ self.new.is_lost) }
-        ensures keeps { OnOk result (self.old.is_lost ≡ true → self.new.is_lost ≡ true) }
-        ensures known { OnOk result (self.new.is_known ≡ true) }
+        ensures page { IfOk result (λ r.
+            page_by self.new ≡ heard_page item r.what (page_by self.old)) }
+        ensures broken { IfOk result (λ r. r.has_broken ≡ self.new.has_broken) }
+        ensures keeps { OnOk result (self.old.has_broken ≡ true → self.new.has_broken ≡ true) }
         ensures no_breach { IfOk result (λ r. IfSome r.what (λ x. is_breach x ≡ false)) }
     {
         self.is_known = false;
@@ -293,56 +287,59 @@ impl<N: Sink + Drop> Peer<N> {
         let Judged { news, is_ended } = judge(
             &mut self.gateway,
             self.is_ended,
-            self.is_lost,
+            self.has_broken,
             item,
         )?;
         self.is_ended = is_ended;
         note_heard(&mut self.said, &news);
-        let Ended { is_closed, is_lost } = end_after(
+        let Ended {
+            is_closed,
+            has_broken,
+        } = end_after(
             &mut self.gateway,
             is_ended,
             self.is_closed,
-            self.is_lost,
+            self.has_broken,
             &news,
         );
         self.is_closed = is_closed;
-        self.is_lost = is_lost;
+        self.has_broken = has_broken;
         self.is_known = true;
         Ok(HeardNews {
             what: news,
-            is_cut: is_lost,
+            has_broken,
         })
     }
 
     /// Takes an item of the link when nothing is said or written any more.
     pub fn hear_late(&mut self, item: LinkNews) -> Result<(), OutOfMemory>
         requires known { self.old.is_known ≡ true }
-        ensures same { (self.new.call ≡ self.old.call)
-            × (noted self.new.told ≡ noted self.old.told) }
-        ensures taken { OnOk result (noted self.new.taken ≡ noted self.old.taken ++ item ∷ []) }
-        ensures said { noted self.new.said ≡ noted self.old.said }
-        ensures keeps { OnOk result (self.old.is_lost ≡ true → self.new.is_lost ≡ true) }
-        ensures known { OnOk result (self.new.is_known ≡ true) }
+        ensures page { OnOk result
+            (page_by self.new ≡ late_page item (noted self.new.late) (page_by self.old)) }
+        ensures keeps { OnOk result (self.old.has_broken ≡ true → self.new.has_broken ≡ true) }
     {
         self.is_known = false;
         self.taken.note(&item);
         let Judged { news, is_ended } = judge(
             &mut self.gateway,
             self.is_ended,
-            self.is_lost,
+            self.has_broken,
             item,
         )?;
         self.is_ended = is_ended;
         note_heard(&mut self.late, &news);
-        let Ended { is_closed, is_lost } = end_after(
+        let Ended {
+            is_closed,
+            has_broken,
+        } = end_after(
             &mut self.gateway,
             is_ended,
             self.is_closed,
-            self.is_lost,
+            self.has_broken,
             &None,
         );
         self.is_closed = is_closed;
-        self.is_lost = is_lost;
+        self.has_broken = has_broken;
         self.is_known = true;
         Ok(())
     }

@@ -83,9 +83,9 @@ child_changed_at zero f (o ∷ cs) = option_map f o ∷ cs
 child_changed_at (suc k) f (o ∷ cs) = o ∷ child_changed_at k f cs
 
 -- the children, of which the one at the place was killed, where there is a place
-abbrev pub cut_by : Option ℕ → List (Option Child) → List (Option Child)
-cut_by None cs = cs
-cut_by (Some k) cs = child_changed_at k killed_child cs
+abbrev pub killed_by : Option ℕ → List (Option Child) → List (Option Child)
+killed_by None cs = cs
+killed_by (Some k) cs = child_changed_at k killed_child cs
 
 -- the child was killed, where there is one
 abbrev pub is_killed_if_any : Option Child → Bool

@@ -2,7 +2,7 @@
 #![tactic(auto)]
 
 mod child;
-mod children;
+mod starts;
 
 pub use child::Child;
-pub use children::{Children, Opened};
+pub use starts::{Opened, Starts};

@@ -14,7 +14,7 @@ use Rattle.xd_commands.specs.Orders.{IsOrder, order_of, order_tree}
 use Rattle.xd_commands.specs.declared.order.Order.{Order}
 use Rattle.xd_commands.proofs.Fitting.{order_dumped}
 use Rattle.xd_gateway.specs.News.{IsNewsOf}
-use Rattle.xd_group_peer.specs.ToLink.{call_message, call_of, order_message, payload_message}
+use Rattle.xd_group_peer.specs.ToLink.{call_message, call_with, order_message, payload_message}
 use Rattle.xd_worker.specs.declared.input.WorkerInput.{WorkerInput}
 use Rattle.xd_worker.specs.declared.input.WorkerInput.TheVariants.{Message, SuiteBytes, SuiteTooLarge, SuiteUnread, Output, ChildDone, LinkEnd}
 use Rattle.xd_worker.specs.History.{HeardInput, MessageSays, worker_after}
@@ -87,7 +87,7 @@ record HasCome (suite : List ℕ) (mode : ModeKind) (os : List Order) (inputs : 
   taken : List Order
   later : List Order
   split : os ≡ taken ++ later
-  come : messages_in inputs ≡ call_message (call_of suite mode) ∷ map say taken
+  come : messages_in inputs ≡ call_message (call_with suite mode) ∷ map say taken
   served : Served taken h
 
 abbrev Stand : List ℕ → ModeKind → List Order → List WorkerInput → List HeardInput → Type 0
@@ -95,13 +95,13 @@ Stand suite mode os inputs h = ((messages_in inputs ≡ []) × (h ≡ [])) ⊎ H
 
 module _ (suite : List ℕ) (mode : ModeKind) (os : List Order) (c : CanBeCalled suite mode) (sayable : AreSayable os) where
   abbrev all : List MessageView
-  all = call_message (call_of suite mode) ∷ map say os
+  all = call_message (call_with suite mode) ∷ map say os
 
   -- the call comes
   comes_first : (i : WorkerInput) (is : List WorkerInput) (g : HeardInput) → messages_in is ≡ [] → IsHeard (worker_after []) i g → is_link_end i ≡ false → IsFirstPart (messages_in is ++ message_in i) all → Stand suite mode os (i ∷ is) (g ∷ [])
   comes_first (Message m) is g none x goes p =
-      let first : call_message (call_of suite mode) ∷ map say os ≡ m ∷ p.0 = p.1 ∙ ap (λ (l : List MessageView). (l ++ m ∷ []) ++ p.0) none in
-      let same : call_message (call_of suite mode) ≡ m = (let z = first in cc) in
+      let first : call_message (call_with suite mode) ∷ map say os ≡ m ∷ p.0 = p.1 ∙ ap (λ (l : List MessageView). (l ++ m ∷ []) ++ p.0) none in
+      let same : call_message (call_with suite mode) ≡ m = (let z = first in cc) in
       inr (record {
         taken = [];
         later = os;
@@ -110,7 +110,7 @@ module _ (suite : List ℕ) (mode : ModeKind) (os : List Order) (c : CanBeCalled
         served = first_served suite mode g c (says g.came refl (subst (λ (y : MessageView). MessageSays y g.came) (sym same) x.is));
       })
     where
-      says : (came : Came) → g.came ≡ came → MessageSays (call_message (call_of suite mode)) came → came ≡ Told (Exec 1 (run_tests_call suite (mode_text mode)))
+      says : (came : Came) → g.came ≡ came → MessageSays (call_message (call_with suite mode)) came → came ≡ Told (Exec 1 (run_tests_call suite (mode_text mode)))
       says (Told said) e q = ap Told (call_says suite mode said c q)
       says (SuiteRead ts) e q = absurd q
       says (NoSuite text) e q = absurd q
@@ -129,8 +129,8 @@ module _ (suite : List ℕ) (mode : ModeKind) (os : List Order) (c : CanBeCalled
   order_came m is g h a x p = next a.later refl
     where
       rest : map say a.later ≡ m ∷ p.0
-      rest = same_rest (call_message (call_of suite mode) ∷ map say a.taken) (map say a.later) (m ∷ p.0) (
-          ap (λ (l : List MessageView). call_message (call_of suite mode) ∷ l) (sym (map_more a.taken a.later) ∙ ap (map say) (sym a.split)) ∙ p.1
+      rest = same_rest (call_message (call_with suite mode) ∷ map say a.taken) (map say a.later) (m ∷ p.0) (
+          ap (λ (l : List MessageView). call_message (call_with suite mode) ∷ l) (sym (map_more a.taken a.later) ∙ ap (map say) (sym a.split)) ∙ p.1
           ∙ append_assoc (messages_in is) (m ∷ []) p.0 ∙ ap (λ (l : List MessageView). l ++ m ∷ p.0) a.come
           )
 
@@ -152,7 +152,7 @@ module _ (suite : List ℕ) (mode : ModeKind) (os : List Order) (c : CanBeCalled
             taken = a.taken ++ o ∷ [];
             later = later;
             split = a.split ∙ (ap (λ (l : List Order). a.taken ++ l) e ∙ sym (append_assoc a.taken (o ∷ []) later));
-            come = ap (λ (l : List MessageView). l ++ m ∷ []) a.come ∙ ap (λ (l : List MessageView). call_message (call_of suite mode) ∷ l) (ap (λ (y : MessageView). map say a.taken ++ y ∷ []) (sym same) ∙ sym (map_more a.taken (o ∷ [])));
+            come = ap (λ (l : List MessageView). l ++ m ∷ []) a.come ∙ ap (λ (l : List MessageView). call_message (call_with suite mode) ∷ l) (ap (λ (y : MessageView). map say a.taken ++ y ∷ []) (sym same) ∙ sym (map_more a.taken (o ∷ [])));
             served = comes_order a.taken h a.served g o ok.0 (says o g.came refl ok.0 ok.1 (subst (λ (y : MessageView). MessageSays y g.came) (sym same) x.is)) x.counts;
           }
 
@@ -207,8 +207,8 @@ says_what_it_tells suite mode orders inputs h c sayable heard ok goes p some = b
     os : List Order
     os = filter_map order_of orders
 
-    told : IsFirstPart (messages_in inputs) (call_message (call_of suite mode) ∷ map say os)
-    told = (p.0, ap (λ (l : List MessageView). call_message (call_of suite mode) ∷ l) (sym (orders_said orders sayable) ∙ sym (append-nil (filter_map order_message orders))) ∙ p.1)
+    told : IsFirstPart (messages_in inputs) (call_message (call_with suite mode) ∷ map say os)
+    told = (p.0, ap (λ (l : List MessageView). call_message (call_with suite mode) ∷ l) (sym (orders_said orders sayable) ∙ sym (append-nil (filter_map order_message orders))) ∙ p.1)
 
     by_stand : Stand suite mode os inputs h → (s : Service) × ((worker_after h).duties.service ≡ Some s) × IsHeardAsCalled os h s.given
     by_stand (inl none) = absurd (some none.0)

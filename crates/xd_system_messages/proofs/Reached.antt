@@ -15,7 +15,7 @@ use Rattle.xd_journal.specs.declared.settings.Settings.{Settings}
 use Rattle.xd_journal.specs.Said.{is_breach}
 use Rattle.xd_commands.specs.Orders.{order_of}
 use Rattle.xd_gateway.specs.News.{Heard, all_messages, all_news}
-use Rattle.xd_group_peer.specs.ToLink.{call_message, call_of, order_message, to_link}
+use Rattle.xd_group_peer.specs.ToLink.{call_message, call_with, order_message, to_link}
 use Rattle.xd_run.specs.Proper.{IsProper}
 use Rattle.xd_run_laws.proofs.Logic.{cases_of, differ}
 use Rattle.xd_session.specs.History.{input_of, run_of, said_by}
@@ -56,11 +56,11 @@ orders_as_entries w (e ∷ es) = go (is_told_to w e) (orders_as_entries w es)
     go true h = ap (cons_option (order_of e)) h
     go false h = h
 
-written_more : (suite : List ℕ) (settings : Settings) (es more : List Entry) → IsFirstPart (to_link (call_of suite settings.mode) es []) (to_link (call_of suite settings.mode) (es ++ more) [])
+written_more : (suite : List ℕ) (settings : Settings) (es more : List Entry) → IsFirstPart (to_link (call_with suite settings.mode) es []) (to_link (call_with suite settings.mode) (es ++ more) [])
 written_more suite settings es more = (
   filter_map order_message more,
-  ap (λ (l : List MessageView). call_message (call_of suite settings.mode) ∷ (l ++ [])) (filter_map-append order_message es more)
-      ∙ ap (λ (l : List MessageView). call_message (call_of suite settings.mode) ∷ l) (append-nil (filter_map order_message es ++ filter_map order_message more) ∙ ap (λ (l : List MessageView). l ++ filter_map order_message more) (sym (append-nil (filter_map order_message es)))),
+  ap (λ (l : List MessageView). call_message (call_with suite settings.mode) ∷ (l ++ [])) (filter_map-append order_message es more)
+      ∙ ap (λ (l : List MessageView). call_message (call_with suite settings.mode) ∷ l) (append-nil (filter_map order_message es ++ filter_map order_message more) ∙ ap (λ (l : List MessageView). l ++ filter_map order_message more) (sym (append-nil (filter_map order_message es)))),
 )
 
 joins : {A : Type 0} (xs ys zs : List A) → IsFirstPart xs ys → IsFirstPart ys zs → IsFirstPart xs zs
@@ -166,7 +166,7 @@ module _ (suite : List ℕ) (settings : Settings) (proper : IsProper settings []
         let r = run_of settings s.taken in
         let more = added r (input_of r n) in
         let entries : (run_of settings (s.taken ++ n ∷ [])).entries ≡ r.entries ++ more = ap (λ q. q.entries) (run-more settings s.taken n) ∙ entries-added r (input_of r n) in
-        subst (λ (es : List Entry). IsFirstPart (written_to suite settings s.taken w) (to_link (call_of suite settings.mode) es [])) (sym (ap (entries_to w) entries ∙ filter_more (is_told_to w) r.entries more))
+        subst (λ (es : List Entry). IsFirstPart (written_to suite settings s.taken w) (to_link (call_with suite settings.mode) es [])) (sym (ap (entries_to w) entries ∙ filter_more (is_told_to w) r.entries more))
         (written_more suite settings (entries_to w r.entries) (entries_to w more))
 
     takes : (w : ℕ) → ((v == w) ≡ true → TookSaid (s.ends w).whole (said_by w s.taken ++ x ∷ []) (all_said (s.ends w).history)) → StandsAt suite settings s.taken w (s.ends w) → StandsAt suite settings (s.taken ++ n ∷ []) w (s.ends w)

@@ -10,7 +10,7 @@ use Rattle.xd_commands.specs.declared.order.Order.{Order}
 use Rattle.xd_commands.specs.Limits.{IsFew}
 use Rattle.xd_commands.specs.Orders.{IsOrder, order_of}
 use Rattle.xd_gateway.specs.News.{IsNewsOf}
-use Rattle.xd_group_peer.specs.ToLink.{call_of, to_link}
+use Rattle.xd_group_peer.specs.ToLink.{call_with, to_link}
 use Rattle.xd_worker_tests.specs.History.{Given, started_tests}
 use Rattle.xd_worker.specs.declared.input.WorkerInput.{WorkerInput}
 use Rattle.xd_worker.specs.History.{HeardInput, all_said, turn_by, worker_after}
@@ -54,7 +54,7 @@ SaysWhatItTells =
     (suite : List ℕ) (mode : ModeKind) (orders : List Entry) (inputs : List WorkerInput) (h : List HeardInput)
     → CanBeCalled suite mode → AreSayable (filter_map order_of orders)
     → AreHeardInputs inputs h → AreGiven h → has_link_end inputs ≡ false
-    → IsFirstPart (messages_in inputs) (to_link (call_of suite mode) orders []) → (messages_in inputs ≡ [] → ⊥)
+    → IsFirstPart (messages_in inputs) (to_link (call_with suite mode) orders []) → (messages_in inputs ≡ [] → ⊥)
     → (s : Service) × ((worker_after h).duties.service ≡ Some s)
     × IsHeardAsCalled (filter_map order_of orders) h s.given
 

@@ -12,7 +12,7 @@ use Rattle.xd_journal.specs.declared.news.What.TheVariants.{Gone, NotStarted}
 use Rattle.xd_journal.specs.declared.settings.Settings.{Settings}
 use Rattle.xd_journal.specs.Said.{is_breach}
 use Rattle.xd_gateway.specs.News.{IsNewsOf}
-use Rattle.xd_group_peer.specs.ToLink.{call_of, to_link}
+use Rattle.xd_group_peer.specs.ToLink.{call_with, to_link}
 use Rattle.xd_run.specs.Proper.{IsProper}
 use Rattle.xd_worker_tests.specs.History.{Given}
 use Rattle.xd_session.specs.History.{run_of, said_by}
@@ -69,7 +69,7 @@ entries_to w es = filter (is_told_to w) es
 -- what the controller writes to a worker until it took that the worker has ended; the GATEWAY_TERMINATE that it writes
 -- then is no step here
 abbrev pub written_to : List ℕ → Settings → List News → ℕ → List MessageView
-written_to suite settings taken w = to_link (call_of suite settings.mode) (entries_to w (run_of settings taken).entries) []
+written_to suite settings taken w = to_link (call_with suite settings.mode) (entries_to w (run_of settings taken).entries) []
 
 -- the controller takes nothing more of the worker
 abbrev pub heard_last : MessageSystem → ℕ → Bool

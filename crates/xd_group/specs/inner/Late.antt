@@ -5,7 +5,7 @@ use Rattle.xd_journal.specs.declared.entry.Entry.{Entry}
 use Rattle.xd_journal.specs.declared.news.What.{What}
 use Rattle.xd_reader.specs.declared.news.LinkNews.{LinkNews}
 use Rattle.xd_group_peer.specs.LinkRun.{Link, LinkRun}
-use Rattle.xd_group_peer.specs.Pages.{Page, taken_of_link}
+use Rattle.xd_group_peer.specs.Pages.{Page, late_page, taken_of_link}
 
 -- what stays of a page
 pub record Settled : Type 0 where
@@ -26,10 +26,6 @@ settled_at (Some p) = Some (settled_of p)
 pub record Late (first : List (Option Settled)) (taken : List (Option (List LinkNews))) (pages : List (Option Page)) : Type 0 where
   pub takes : map taken_of_link pages ≡ taken
   pub same : (k : ℕ) (p : Page) → slice_get pages k ≡ Some (Some p) → (slice_get first k ≡ Some (Some (settled_of p))) × (p.known ≡ true)
-
--- the page after one more item of its link, with all that was heard late by then
-abbrev pub late_page : LinkNews → List What → Page → Page
-late_page item late p = record { call = p.call; taken = p.taken ++ item ∷ []; told = p.told; said = p.said; late = late; known = true }
 
 -- the link at the place was heard late, and no other changed
 abbrev pub LateAt : LinkNews → ℕ → List (Option Page) → List (Option Page) → Type 0

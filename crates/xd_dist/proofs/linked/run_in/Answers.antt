@@ -21,7 +21,7 @@ returns-clause-ran g c =
     same ended run.status
     run.journal
     (rw (starter, crew, c.join_left.ensures) (seen_as c.run_over-ended.result _ (λ d. turns_of diary_tells g.O.Sink.sunk d.moments) now _
-    (λ h. links_seen (g.St.Starter.begun h.children.starter) (g.St.Starter.faults h.children.starter) (g.C.Crew.faults h.group.links.crew)
+    (λ h. links_seen (g.St.Starter.begun h.starts.starter) (g.St.Starter.faults h.starts.starter) (g.C.Crew.faults h.group.links.crew)
     (g.O.Sink.sunk c.run_over-ended.new.out) (g.O.Sink.faults c.run_over-ended.new.out))
     c.run_over-ended.new.hub c.end_workers.new.hub c.end_workers.ensures.same (rw (hub.starter.1, hub.crew.1) at run.runs)))
     run.counted)

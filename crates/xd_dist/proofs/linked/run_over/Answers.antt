@@ -2,7 +2,7 @@ use Rattle.std.proofs.Common.{◌∙◌, ap}
 use Rattle.xd_link.specs.Spring.{spring}
 use Rattle.xd_trace.specs.Noted.{noted}
 use Rattle.xd_group_peer.specs.EndedLinks.{EndedLink, ended_link}
-use Rattle.xd_group_peer.specs.ToLink.{call_of}
+use Rattle.xd_group_peer.specs.ToLink.{call_with}
 use Rattle.xd_group_peer.specs.declared.link_end.LinkEnd.{LinkEnd}
 use Rattle.xd_dist.proofs.Linking.{broken_from, runs_linked, whole_from}
 use Rattle.xd_dist.proofs.linked.run_over.Goals as goal
@@ -18,9 +18,9 @@ returns-clause-runs g c =
     let seen : LinkEnd g.row.St-Src.Denot g.row.St-Snk.Denot → EndedLink = λ l. ended_link l.worker l.killed (spring (g.St.Src.Source.supply l.source) (g.St.Src.Source.is_ended l.source) (g.St.Src.Source.faults l.source)) (g.St.Snk.Sink.sunk l.sink) (g.St.Snk.Sink.faults l.sink) in
     let first = ap (λ p. p.2.value) made in
     let crew = ap (λ p. p.3.value) made in
-    runs_linked seen c.in_ok-links.links.items (record { suite = was.group.call.suite; settings = c.args.session.settings; places = was.places.items }) now.group.call c.in_ok-driven.driven.journal calls given now.group.diary.workers.items now.group.diary.fates.items now.places.items
+    runs_linked seen c.in_ok-links.links.items (record { suite = was.group.call.suite; settings = c.args.session.settings; places = was.places.items }) now.group.call c.in_ok-driven.driven.journal calls given now.group.diary.workers.items now.group.diary.linkages.items now.places.items
     _ _ _ _ _ _ _ _ _ _ _
-    (ap (λ p. p.0) made ∙ ap (call_of was.group.call.suite) c.requires.mode) done.listed now.group.diary.matched (ap (λ p. p.1.items) made)
+    (ap (λ p. p.0) made ∙ ap (call_with was.group.call.suite) c.requires.mode) done.listed now.group.diary.matched (ap (λ p. p.1.items) made)
     (record {
       whole = λ e. whole_from c.in_ok-driven.driven.journal (noted was.group.diary.calls) calls (noted was.group.diary.given) given _ _ _ c.requires.no_calls c.requires.no_news (c.in_ok-driven.ensures.drove.whole e);
       broken = λ e. let b = c.in_ok-driven.ensures.drove.broken e in broken_from c.in_ok-driven.driven.journal (noted was.group.diary.calls) calls (noted was.group.diary.given) given _ _ _ c.requires.no_calls c.requires.no_news (b.0, b.1, b.2);

@@ -7,46 +7,46 @@ pub returns-then-is_closed-clause-closed : goal.returns-then-is_closed-clause-cl
 returns-then-is_closed-clause-closed g c said was stays is = closed_still said c.args.news.now was c.args.is_ended c.args.is_closed stays is c.if-is_closed.true
 
 pub returns-then-is_closed-clause-sent : goal.returns-then-is_closed-clause-sent
-returns-then-is_closed-clause-sent g c call told said was stays lost is s = sent_still _ c.args.is_closed was c.args.is_ended _ _ call told said c.args.news.now stays is c.if-is_closed.true s
+returns-then-is_closed-clause-sent g c call told said was stays broken is s = sent_still _ c.args.is_closed was c.args.is_ended _ _ call told said c.args.news.now stays is c.if-is_closed.true s
 
 pub returns-then-is_farewell-clause-closed : goal.returns-then-is_farewell-clause-closed
 returns-then-is_farewell-clause-closed g c said was stays is = closed_left said c.args.news.now c.args.is_ended (sym c.is_farewell.ensures ∙ c.if-is_farewell.true)
 
 pub returns-then-is_farewell-clause-sent : goal.returns-then-is_farewell-clause-sent
-returns-then-is_farewell-clause-sent g c call told said was stays lost is s =
-    sent_ended _ _ _ was (line_of g.N.Sink.sunk g.N.Sink.faults c.args.gateway.now) (line_of g.N.Sink.sunk g.N.Sink.faults c.end_worker-is_lost.new.gateway) call told said _ lost c.end_worker-is_lost.ensures.lost is c.if-is_closed.false (sym c.is_farewell.ensures ∙ c.if-is_farewell.true) s c.end_worker-is_lost.ensures.closes
+returns-then-is_farewell-clause-sent g c call told said was stays broken is s =
+    sent_ended _ _ _ was (line_of g.N.Sink.sunk g.N.Sink.faults c.args.gateway.now) (line_of g.N.Sink.sunk g.N.Sink.faults c.end_worker-has_broken.new.gateway) call told said _ broken c.end_worker-has_broken.ensures.broken is c.if-is_closed.false (sym c.is_farewell.ensures ∙ c.if-is_farewell.true) s c.end_worker-has_broken.ensures.closes
 
 pub returns-then-is_farewell-clause-heard : goal.returns-then-is_farewell-clause-heard
 returns-then-is_farewell-clause-heard g c ended taken said l h =
-    heard_kept _ _ _ _ _ _ _ c.end_worker-is_lost.ensures.stands (close_keeps _ _ _ (line_of g.N.Sink.sunk g.N.Sink.faults c.args.gateway.now) (line_of g.N.Sink.sunk g.N.Sink.faults c.end_worker-is_lost.new.gateway) l c.end_worker-is_lost.ensures.lost c.end_worker-is_lost.ensures.closes) h
+    heard_kept _ _ _ _ _ _ _ c.end_worker-has_broken.ensures.stands (close_keeps _ _ _ (line_of g.N.Sink.sunk g.N.Sink.faults c.args.gateway.now) (line_of g.N.Sink.sunk g.N.Sink.faults c.end_worker-has_broken.new.gateway) l c.end_worker-has_broken.ensures.broken c.end_worker-has_broken.ensures.closes) h
 
 pub returns-then-is_farewell-clause-keeps : goal.returns-then-is_farewell-clause-keeps
 returns-then-is_farewell-clause-keeps g c l =
-    close_keeps _ _ _ (line_of g.N.Sink.sunk g.N.Sink.faults c.args.gateway.now) (line_of g.N.Sink.sunk g.N.Sink.faults c.end_worker-is_lost.new.gateway) l c.end_worker-is_lost.ensures.lost c.end_worker-is_lost.ensures.closes
+    close_keeps _ _ _ (line_of g.N.Sink.sunk g.N.Sink.faults c.args.gateway.now) (line_of g.N.Sink.sunk g.N.Sink.faults c.end_worker-has_broken.new.gateway) l c.end_worker-has_broken.ensures.broken c.end_worker-has_broken.ensures.closes
 
 pub returns-then-is_ended-clause-closed : goal.returns-then-is_ended-clause-closed
 returns-then-is_ended-clause-closed g c said was stays is = closed_end said c.args.news.now c.args.is_ended c.if-is_ended.true
 
 pub returns-then-is_ended-clause-sent : goal.returns-then-is_ended-clause-sent
-returns-then-is_ended-clause-sent g c call told said was stays lost is s =
-    sent_over _ _ _ was (line_of g.N.Sink.sunk g.N.Sink.faults c.args.gateway.now) (line_of g.N.Sink.sunk g.N.Sink.faults c.close_link-is_lost.new.gateway) call told said _ lost c.close_link-is_lost.ensures.lost is c.if-is_closed.false (sym c.is_farewell.ensures ∙ c.if-is_farewell.false) s c.close_link-is_lost.ensures.closes
+returns-then-is_ended-clause-sent g c call told said was stays broken is s =
+    sent_over _ _ _ was (line_of g.N.Sink.sunk g.N.Sink.faults c.args.gateway.now) (line_of g.N.Sink.sunk g.N.Sink.faults c.close_link-has_broken.new.gateway) call told said _ broken c.close_link-has_broken.ensures.broken is c.if-is_closed.false (sym c.is_farewell.ensures ∙ c.if-is_farewell.false) s c.close_link-has_broken.ensures.closes
 
 pub returns-then-is_ended-clause-heard : goal.returns-then-is_ended-clause-heard
 returns-then-is_ended-clause-heard g c ended taken said l h =
-    heard_kept _ _ _ _ _ _ _ c.close_link-is_lost.ensures.stands (shut_keeps _ _ (line_of g.N.Sink.sunk g.N.Sink.faults c.args.gateway.now) (line_of g.N.Sink.sunk g.N.Sink.faults c.close_link-is_lost.new.gateway) l c.close_link-is_lost.ensures.lost c.close_link-is_lost.ensures.closes) h
+    heard_kept _ _ _ _ _ _ _ c.close_link-has_broken.ensures.stands (shut_keeps _ _ (line_of g.N.Sink.sunk g.N.Sink.faults c.args.gateway.now) (line_of g.N.Sink.sunk g.N.Sink.faults c.close_link-has_broken.new.gateway) l c.close_link-has_broken.ensures.broken c.close_link-has_broken.ensures.closes) h
 
 pub returns-then-is_ended-clause-keeps : goal.returns-then-is_ended-clause-keeps
 returns-then-is_ended-clause-keeps g c l =
-    shut_keeps _ _ (line_of g.N.Sink.sunk g.N.Sink.faults c.args.gateway.now) (line_of g.N.Sink.sunk g.N.Sink.faults c.close_link-is_lost.new.gateway) l c.close_link-is_lost.ensures.lost c.close_link-is_lost.ensures.closes
+    shut_keeps _ _ (line_of g.N.Sink.sunk g.N.Sink.faults c.args.gateway.now) (line_of g.N.Sink.sunk g.N.Sink.faults c.close_link-has_broken.new.gateway) l c.close_link-has_broken.ensures.broken c.close_link-has_broken.ensures.closes
 
 pub returns-clause-closed : goal.returns-clause-closed
 returns-clause-closed g c said was stays is = closed_open said c.args.news.now was c.args.is_ended c.args.is_closed is c.if-is_closed.false (sym c.is_farewell.ensures ∙ c.if-is_farewell.false) c.if-is_ended.false
 
 pub returns-clause-sent : goal.returns-clause-sent
-returns-clause-sent g c call told said was stays lost is s = sent_same _ c.args.is_closed was _ _ call told said _ is c.if-is_closed.false (sym c.is_farewell.ensures ∙ c.if-is_farewell.false) s
+returns-clause-sent g c call told said was stays broken is s = sent_same _ c.args.is_closed was _ _ call told said _ is c.if-is_closed.false (sym c.is_farewell.ensures ∙ c.if-is_farewell.false) s
 
 pub returns-then-is_farewell-clause-whole : goal.returns-then-is_farewell-clause-whole
 returns-then-is_farewell-clause-whole g c m left h = absurd (no_way _ (sym c.is_farewell.ensures ∙ c.if-is_farewell.true) left)
 
 pub returns-then-is_ended-clause-whole : goal.returns-then-is_ended-clause-whole
-returns-then-is_ended-clause-whole g c m left h = over_handed (line_of g.N.Sink.sunk g.N.Sink.faults c.args.gateway.now) (line_of g.N.Sink.sunk g.N.Sink.faults c.close_link-is_lost.new.gateway) m c.close_link-is_lost.ensures.closes h
+returns-then-is_ended-clause-whole g c m left h = over_handed (line_of g.N.Sink.sunk g.N.Sink.faults c.args.gateway.now) (line_of g.N.Sink.sunk g.N.Sink.faults c.close_link-has_broken.new.gateway) m c.close_link-has_broken.ensures.closes h

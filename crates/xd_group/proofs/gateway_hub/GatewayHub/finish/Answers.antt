@@ -7,11 +7,11 @@ use Rattle.xd_trace.specs.Noted.{noted}
 use Rattle.xd_post.specs.Mails.{mails}
 use Rattle.xd_starts.specs.Children.{TellsLinks, children_asked}
 use Rattle.xd_group.specs.inner.Ending.{Began, began_with}
-use Rattle.xd_group.specs.Fates.{has_link}
+use Rattle.xd_group.specs.Linkages.{has_link}
 use Rattle.xd_group.specs.InStep.{all_started}
 use Rattle.xd_group_peer.specs.PeerView.{pages_of}
 use Rattle.xd_group.specs.Returned.{end_told}
-use Rattle.xd_group.proofs.FateFacts.{failed_count, linked_length, take_all, with_all}
+use Rattle.xd_group.proofs.LinkageFacts.{failed_count, linked_length, take_all, with_all}
 use Rattle.xd_group_peer.proofs.PeerFacts.{no_way}
 use Rattle.xd_group.proofs.Saying.{said_unlinked}
 use Rattle.xd_group.proofs.Stepping.{begun_all}
@@ -57,13 +57,13 @@ loop-number-preserved g c =
     let done = c.in_ok-end_next.ensures in
     let began : Began = began_with was.call (mails was.links.desk) was.peers.items in
     record {
-      over = done.over;
+      over = done.only.1;
       ending = rw (inv.diary) at (done.ending began (rw (inv.diary) inv.ending));
       ended = rw (inv.diary) at (done.ended began (rw (inv.diary) inv.ending) (rw (inv.diary) inv.ended));
       starts = done.starts ∙ inv.starts;
       first = done.first ∙ inv.first;
-      crew = done.crew.0 ∙ inv.crew;
-      diary = done.diary ∙ inv.diary;
+      crew = done.only.3 ∙ inv.crew;
+      diary = done.only.0 ∙ inv.diary;
     }
 
 pub returns-clause-workers : goal.returns-clause-workers
@@ -71,7 +71,7 @@ returns-clause-workers g c =
     let diary = c.args.self.now.group.diary in
     let size : c.in-Ok.count ≡ length diary.workers.items = search rules in
     let all : c.loop-number.number ≡ c.in-Ok.count = omega (arith, c.loop-number-test.false, c.loop-number.auto.number-end) in
-    c.loop-number.invariant.ended.workers ∙ with_all has_link diary.workers.items diary.fates.items c.loop-number.number (all ∙ size) diary.matched
+    c.loop-number.invariant.ended.workers ∙ with_all has_link diary.workers.items diary.linkages.items c.loop-number.number (all ∙ size) diary.matched
 
 pub returns-clause-begun : goal.returns-clause-begun
 returns-clause-begun g c =
@@ -82,10 +82,10 @@ returns-clause-begun g c =
     let diary = was.group.diary in
     let size : c.in-Ok.count ≡ length diary.workers.items = search rules in
     let all : c.loop-number.number ≡ c.in-Ok.count = omega (arith, c.loop-number-test.false, c.loop-number.auto.number-end) in
-    let count : c.loop-number.number ≡ length now.children.items = all ∙ (size ∙ (sym diary.matched ∙ sym (linked_length now.children.items diary.fates.items inv.ended.linked))) in
+    let count : c.loop-number.number ≡ length now.children.items = all ∙ (size ∙ (sym diary.matched ∙ sym (linked_length now.children.items diary.linkages.items inv.ended.linked))) in
     ∥∥₁_elim now.told (hlevel props)
     (λ t. ∥∥₁_elim (was.in_step whole) (hlevel props)
-    (λ s. begun_all (g.St.Starter.begun was.children.first.value) (g.St.Starter.begun now.starter) now.children.items (all_started was.places.items (starts_of (noted diary.calls)) diary.fates.items) (map (λ l. end_told l.killed) c.loop-number.ends.items) (inv.starts ∙ s.starts)
+    (λ s. begun_all (g.St.Starter.begun was.starts.first.value) (g.St.Starter.begun now.starter) now.children.items (all_started was.places.items (starts_of (noted diary.calls)) diary.linkages.items) (map (λ l. end_told l.killed) c.loop-number.ends.items) (inv.starts ∙ s.starts)
     (ap children_asked (sym (take_all now.children.items c.loop-number.number count)) ∙ inv.ended.asked) (subst (λ (f : _). TellsLinks (g.St.Starter.begun f.value) (g.St.Starter.begun now.starter) now.children.items) inv.first t)))
 
 pub returns-clause-unlinked : goal.returns-clause-unlinked
@@ -93,7 +93,7 @@ returns-clause-unlinked g c w out =
     let was = c.args.self.now.group in
     let whole = c.in_ok-settle.ensures.whole in
     ∥∥₁_map₂ (was.kept whole) (was.unsaid whole)
-    (λ k u. said_unlinked was.call (news_of (mails was.links.desk)) (noted was.diary.calls) (noted was.diary.given) was.diary.workers.items (pages_of was.peers.items) was.diary.fates.items was.diary.waiting.items w was.diary.matched (was.seats whole) out k u)
+    (λ k u. said_unlinked was.call (news_of (mails was.links.desk)) (noted was.diary.calls) (noted was.diary.given) was.diary.workers.items (pages_of was.peers.items) was.diary.linkages.items was.diary.waiting.items w was.diary.matched (was.linked whole) out k u)
 
 pub returns-clause-few_refused : goal.returns-clause-few_refused
 returns-clause-few_refused g c = rw (c.loop-number.invariant.crew) (c.args.self.now.group.few c.in_ok-settle.ensures.whole)
@@ -103,7 +103,7 @@ returns-clause-few_unlinked g c =
     let was = c.args.self.now in
     let now = c.loop-number.self.children in
     let inv = c.loop-number.invariant in
-    rw (← failed_count now.children.items was.group.diary.fates.items inv.ended.linked, ← inv.first) now.few
+    rw (← failed_count now.children.items was.group.diary.linkages.items inv.ended.linked, ← inv.first) now.few
 
 pub returns-clause-runs : goal.returns-clause-runs
 returns-clause-runs g c = c.loop-number.invariant.ended.runs

@@ -1,7 +1,7 @@
 use Rattle.xd_group.proofs.Killing.{kills_first}
 use Rattle.std.proofs.Common.{◌≡◌, [], List, ap, map, sym, ◌∙◌, rules}
 use Rattle.std.specs.Prelude.{is_some}
-use Rattle.xd_group.specs.Fates.{is_linked, is_refused}
+use Rattle.xd_group.specs.Linkages.{is_linked, is_refused}
 use Rattle.xd_group_peer.specs.PeerView.{pages_of}
 use Rattle.xd_group.proofs.Counting.{few_first}
 use Rattle.xd_group.proofs.Keeping.{kept_first}
@@ -17,17 +17,17 @@ invariant_of-result g c =
     record {
       short = c.requires.short;
       kept = λ e. ∣ kept_first _ _ _ _ _ _ _ c.in_ok-links.ensures.none.0 diary.calls diary.given diary.workers (ap pages_of peers) ∣₁;
-      few = λ e. rw (c.in_ok-links.ensures.crew, c.of-first.ensures) (few_first _ _ diary.fates);
-      seats = λ e. ap (λ (l : List _). map is_some (pages_of l)) peers ∙ sym (ap (map is_linked) diary.fates);
-      spared = λ e. ap (map is_some) spares ∙ sym (ap (map is_refused) diary.fates);
+      few = λ e. rw (c.in_ok-links.ensures.crew, c.of-first.ensures) (few_first _ _ diary.linkages);
+      linked = λ e. ap (λ (l : List _). map is_some (pages_of l)) peers ∙ sym (ap (map is_linked) diary.linkages);
+      spared = λ e. ap (map is_some) spares ∙ sym (ap (map is_refused) diary.linkages);
       unsaid = λ e. ∣ unsaid_first _ _ _ _ diary.workers diary.waiting ∣₁;
     }
 
 pub invariant_of-result-2 : goal.invariant_of-result-2
 invariant_of-result-2 g c =
     let diary = c.in_ok-diary.ensures in
-    let children = c.new-3.ensures in
+    let starts = c.new-3.ensures in
     record {
-      in_step = λ e. ∣ rw (children.first, children.starter) (step_first _ _ _ _ _ children.none diary.calls diary.fates) ∣₁;
+      in_step = λ e. ∣ rw (starts.first, starts.starter) (step_first _ _ _ _ _ starts.none diary.calls diary.linkages) ∣₁;
       kills = λ e. ∣ kills_first _ _ _ _ _ diary.calls diary.workers ∣₁;
     }

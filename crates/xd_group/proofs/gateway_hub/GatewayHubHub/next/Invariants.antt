@@ -6,10 +6,6 @@ abbrev pub invariant-loop : goal.invariant-loop
 invariant-loop g l = record {
   calls : noted l.self.group.diary.calls ≡ noted l.fn.self.group.diary.calls;
   given : noted l.self.group.diary.given ≡ noted l.fn.self.group.diary.given;
-  places : l.self.places ≡ l.fn.self.places;
-  first : l.self.children.first ≡ l.fn.self.children.first;
-  crew : l.self.group.first ≡ l.fn.self.group.first;
-  call : l.self.group.call ≡ l.fn.self.group.call;
+  made : (l.self.group.call ≡ l.fn.self.group.call) × (l.self.places ≡ l.fn.self.places) × (l.self.starts.first ≡ l.fn.self.starts.first) × (l.self.group.first ≡ l.fn.self.group.first);
   none_waits : l.self.group.is_whole ≡ true → l.self.group.diary.waiting.items ≡ [];
-  whole : l.self.group.is_whole ≡ l.fn.self.group.is_whole;
 }

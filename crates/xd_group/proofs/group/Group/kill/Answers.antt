@@ -8,6 +8,11 @@ use Rattle.xd_journal.specs.declared.entry.Entry.TheVariants.{Kill}
 use Rattle.xd_group.proofs.Keeping.{kept_called}
 use Rattle.xd_group.proofs.group.Group.kill.Goals as goal
 
+pub returns-clause-took : goal.returns-clause-took
+returns-clause-took g c =
+    let told = c.note_call.ensures in
+    (told.calls, told.given, told.workers, told.linkages)
+
 pub invariant_of-self : goal.invariant_of-self
 invariant_of-self g c =
     let was = c.args.self.now in
@@ -16,8 +21,8 @@ invariant_of-self g c =
       kept = λ e. ∥∥₁_map (was.kept e)
           (λ k. rw (c.note_call.ensures.given, c.note_call.ensures.workers)
           (kept_called was.call (news_of (mails was.links.desk)) (noted was.diary.calls) _ (noted was.diary.given) was.diary.workers.items (pages_of was.peers.items) (Kill c.args.worker) c.note_call.ensures.calls (λ v. refl) (λ v. refl) k));
-      few = λ e. rw (c.note_call.ensures.fates) (was.few e);
-      seats = λ e. rw (c.note_call.ensures.fates) (was.seats e);
-      spared = λ e. rw (c.note_call.ensures.fates) (was.spared e);
+      few = λ e. rw (c.note_call.ensures.linkages) (was.few e);
+      linked = λ e. rw (c.note_call.ensures.linkages) (was.linked e);
+      spared = λ e. rw (c.note_call.ensures.linkages) (was.spared e);
       unsaid = λ e. rw (c.note_call.ensures.given, c.note_call.ensures.workers, c.note_call.ensures.waiting) (was.unsaid e);
     }

@@ -1,4 +1,4 @@
-use Rattle.std.proofs.Common.{◌≡◌, ◌∙◌, ap, List, refl, Some}
+use Rattle.std.proofs.Common.{◌≡◌, ◌∙◌, ap, append-nil, List, refl, sym, Some}
 use Rattle.std.specs.Prelude.{◌++◌, ◌∷◌, [], slice_get}
 use Rattle.std.proofs.Math.Logic.{∥∥₁_map₂}
 use Rattle.xd_links.specs.Runs.{news_of}
@@ -31,9 +31,9 @@ invariant_of-self-2 g c =
           (kept_unlinked was.call (news_of (mails was.links.desk)) (noted was.diary.calls) (noted was.diary.given) _ was.diary.workers.items (pages_of was.peers.items) c.in-Some.number n refl
           (told.given ∙ ap (λ (l : List News). l ++ n ∷ []) took.given)
           at (rw (← took.calls) c.in-Some-worker_at.ensures.started) (waits_unread (noted was.diary.given) was.diary.workers.items (pages_of was.peers.items) was.diary.waiting.items _ c.in-Some.number n.worker took.waiting at u) k));
-      few = λ e. rw (told.fates, took.fates) (was.few e);
-      seats = λ e. rw (told.fates, took.fates) (was.seats e);
-      spared = λ e. rw (told.fates, took.fates) (was.spared e);
+      few = λ e. rw (told.linkages, took.linkages) (was.few e);
+      linked = λ e. rw (told.linkages, took.linkages) (was.linked e);
+      spared = λ e. rw (told.linkages, took.linkages) (was.spared e);
       unsaid = λ e. ∥∥₁_map₂ (was.kept e) (was.unsaid e)
           (λ k u. rw (told.workers, took.workers, told.waiting)
           (unsaid_said (noted was.diary.given) _ was.diary.workers.items (pages_of was.peers.items) was.diary.waiting.items _ c.in-Some.number n refl
@@ -49,3 +49,18 @@ pub returns-clause-waited : goal.returns-clause-waited
 returns-clause-waited g c whole =
     let took = c.in-Some.ensures in
     (c.in-Some.number, rw (c.note_news.ensures.waiting) took.waiting, rw (← took.workers) c.in-Some-worker_at.ensures.at, refl)
+
+pub returns-then-not-self-clause-gave : goal.returns-then-not-self-clause-gave
+returns-then-not-self-clause-gave g c = (sym (append-nil (noted c.args.self.now.diary.given)), refl, refl, refl)
+
+pub returns-in_default-clause-gave : goal.returns-in_default-clause-gave
+returns-in_default-clause-gave g c =
+    let took = c.in_default.ensures in
+    (took.given ∙ sym (append-nil (noted c.args.self.now.diary.given)), took.calls, took.workers, took.linkages)
+
+pub returns-clause-gave : goal.returns-clause-gave
+returns-clause-gave g c =
+    let took = c.in-Some.ensures in
+    let told = c.note_news.ensures in
+    let n : News = record { worker = c.in-Some-worker_at.worker; what = NotStarted } in
+    (told.given ∙ ap (λ (l : List News). l ++ n ∷ []) took.given, told.calls ∙ took.calls, told.workers ∙ took.workers, told.linkages ∙ took.linkages)

@@ -3,14 +3,15 @@ use Rattle.xd_links.specs.Runs.{news_of}
 use Rattle.xd_trace.specs.Noted.{noted}
 use Rattle.xd_post.specs.Mails.{mails}
 use Rattle.xd_group_peer.specs.PeerView.{pages_of}
-use Rattle.std.proofs.Common.{◌≡◌, ap, length, map, rules}
+use Rattle.std.proofs.Common.{◌≡◌, ◌∙◌, ap, length, map, rules}
 use Rattle.std.specs.Prelude.{is_none, is_some}
-use Rattle.xd_group.specs.Fates.{is_linked}
+use Rattle.xd_group.specs.Linkages.{is_linked}
 use Rattle.xd_group.proofs.Counting.{few_opened}
-use Rattle.xd_group.proofs.FateFacts.{spared_more}
+use Rattle.xd_group.proofs.Ending.{some_same}
+use Rattle.xd_group.proofs.LinkageFacts.{spared_more}
 use Rattle.xd_group.proofs.Keeping.{kept_started}
-use Rattle.xd_group.proofs.LossFacts.{peer_count}
-use Rattle.xd_group.proofs.Saying.{opened_seats, unsaid_opened}
+use Rattle.xd_group.proofs.BreakFacts.{peer_count}
+use Rattle.xd_group.proofs.Saying.{opened_linked, unsaid_opened}
 use Rattle.xd_group.proofs.group.Group.open.Goals as goal
 
 pub invariant_of-self-2 : goal.invariant_of-self-2
@@ -19,19 +20,33 @@ invariant_of-self-2 g c =
     let none = is_none c.in_ok-back.back in
     let told = c.in_ok-note_start.ensures in
     let last = c.in_ok-note_unlinked.ensures in
-    let seat = c.in_ok-seat.ensures in
+    let link = c.in_ok-link.ensures in
     let at : c.in-Ok.number ≡ length was.peers.items = search rules in
     record {
       short = was.short;
       kept = λ e. ∥∥₁_map (was.kept e)
           (λ k. rw (last.calls, last.given, last.workers, told.given)
           (kept_started was.call (news_of (mails was.links.desk)) _ (noted was.diary.calls) _ (noted was.diary.given) was.diary.workers.items _ (pages_of was.peers.items) _ c.args.worker c.args.slot none
-          told.calls c.requires.new was.diary.known told.workers (c.in_ok-back.ensures.news was.call) seat.pages k));
-      few = λ e. rw (last.fates) (few_opened was.diary.fates.items _ c.in_ok-seat.seat.fate none _ _ _ told.fates seat.linked seat.started c.in_ok-back.ensures.crew (was.few e));
-      seats = λ e. rw (last.fates) (opened_seats was.call none (pages_of was.peers.items) _ was.diary.fates.items _ c.in_ok-seat.seat.fate seat.pages told.fates seat.linked (was.seats e));
-      spared = λ e. rw (last.fates) (spared_more (map is_some was.spares.items) _ was.diary.fates.items _ c.in_ok-seat.seat.fate seat.kept told.fates (was.spared e));
+          told.calls c.requires.new was.diary.known told.workers (c.in_ok-back.ensures.news was.call) link.pages k));
+      few = λ e. rw (last.linkages) (few_opened was.diary.linkages.items _ c.in_ok-link.link.linkage none _ _ _ told.linkages link.linked link.started c.in_ok-back.ensures.crew (was.few e));
+      linked = λ e. rw (last.linkages) (opened_linked was.call none (pages_of was.peers.items) _ was.diary.linkages.items _ c.in_ok-link.link.linkage link.pages told.linkages link.linked (was.linked e));
+      spared = λ e. rw (last.linkages) (spared_more (map is_some was.spares.items) _ was.diary.linkages.items _ c.in_ok-link.link.linkage link.kept told.linkages (was.spared e));
       unsaid = λ e. ∥∥₁_map₂ (was.kept e) (was.unsaid e)
           (λ k u. rw (last.given, last.workers, told.given)
-          (unsaid_opened was.call (news_of (mails was.links.desk)) (noted was.diary.calls) (noted was.diary.given) was.diary.workers.items _ (pages_of was.peers.items) _ was.diary.waiting.items _ _ c.args.worker c.in-Ok.number (is_linked c.in_ok-seat.seat.fate) none
-          told.workers seat.pages last.waiting (ap (λ (v : _). v.items) told.waiting) seat.linked (peer_count was.peers.items c.in-Ok.number at) c.requires.new k u));
+          (unsaid_opened was.call (news_of (mails was.links.desk)) (noted was.diary.calls) (noted was.diary.given) was.diary.workers.items _ (pages_of was.peers.items) _ was.diary.waiting.items _ _ c.args.worker c.in-Ok.number (is_linked c.in_ok-link.link.linkage) none
+          told.workers link.pages last.waiting (ap (λ (v : _). v.items) told.waiting) link.linked (peer_count was.peers.items c.in-Ok.number at) c.requires.new k u));
     }
+
+pub returns-clause-took : goal.returns-clause-took
+returns-clause-took g c =
+    let told = c.in_ok-note_start.ensures in
+    let last = c.in_ok-note_unlinked.ensures in
+    (last.calls ∙ told.calls, last.given ∙ told.given, ap (λ (v : _). v.items) last.workers ∙ told.workers, ap (λ (v : _). v.items) last.linkages ∙ told.linkages)
+
+pub read-requires : goal.read-requires
+read-requires g c = record { nothing_given = c.requires.unused.none_given }
+
+pub keep_link-requires : goal.keep_link-requires
+keep_link-requires g c =
+    let un = c.requires.unused in
+    record { unread = some_same _ c.in_ok-back.back c.args.source c.in_ok-back.ensures.back (un.none_given, un.reads); unwritten = (un.none_taken, un.writes); short = c.args.self.now.short }

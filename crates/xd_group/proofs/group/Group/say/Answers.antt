@@ -8,6 +8,11 @@ use Rattle.xd_group.proofs.PageFacts.{never}
 use Rattle.xd_group.proofs.Saying.{unsaid_told}
 use Rattle.xd_group.proofs.group.Group.say.Goals as goal
 
+pub returns-clause-took : goal.returns-clause-took
+returns-clause-took g c =
+    let told = c.note_call.ensures in
+    (told.calls, told.given, told.workers, told.linkages)
+
 pub tell_at-requires : goal.tell_at-requires
 tell_at-requires g c =
     let was = c.args.self.now in
@@ -26,13 +31,13 @@ invariant_of-self-2 g c =
       kept = λ e. ∥∥₁_map (was.kept whole)
           (λ k. rw (c.note_call.ensures.given, c.note_call.ensures.workers)
           (kept_told_at was.call (news_of (mails was.links.desk)) (noted was.diary.calls) _ (noted was.diary.given) was.diary.workers.items (pages_of was.peers.items) _ c.in-Some.number c.args.worker c.args.order.now
-          c.note_call.ensures.calls c.in-Some.ensures.some c.requires.told c.requires.order c.in_ok-is_cut.ensures.told k));
-      few = λ e. rw (c.note_call.ensures.fates) (was.few whole);
-      seats = λ e. rw (c.note_call.ensures.fates, c.in_ok-is_cut.ensures.seats) (was.seats whole);
-      spared = λ e. rw (c.note_call.ensures.fates) (was.spared whole);
+          c.note_call.ensures.calls c.in-Some.ensures.some c.requires.told c.requires.order c.in_ok-is_doomed.ensures.told k));
+      few = λ e. rw (c.note_call.ensures.linkages) (was.few whole);
+      linked = λ e. rw (c.note_call.ensures.linkages, c.in_ok-is_doomed.ensures.linked) (was.linked whole);
+      spared = λ e. rw (c.note_call.ensures.linkages) (was.spared whole);
       unsaid = λ e. ∥∥₁_map (was.unsaid whole)
           (λ u. rw (c.note_call.ensures.given, c.note_call.ensures.workers, c.note_call.ensures.waiting)
-          (unsaid_told (noted was.diary.given) was.diary.workers.items (pages_of was.peers.items) _ was.diary.waiting.items c.in_ok-is_cut.ensures.seats u));
+          (unsaid_told (noted was.diary.given) was.diary.workers.items (pages_of was.peers.items) _ was.diary.waiting.items c.in_ok-is_doomed.ensures.linked u));
     }
 
 pub unreachable-requires : goal.unreachable-requires

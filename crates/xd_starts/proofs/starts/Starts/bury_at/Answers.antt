@@ -1,7 +1,7 @@
 use Rattle.xd_starts.specs.Children.{buried_child}
 use Rattle.std.proofs.Common.{◌∙◌}
 use Rattle.xd_starts.proofs.Asking.{buried_killed, buried_other, none_changed, not_false, not_true}
-use Rattle.xd_starts.proofs.children.Children.bury_at.Goals as goal
+use Rattle.xd_starts.proofs.starts.Starts.bury_at.Goals as goal
 
 pub returns-in_default-clause-children : goal.returns-in_default-clause-children
 returns-in_default-clause-children g c = none_changed c.args.self.now.children.items c.args.number buried_child c.in_default.ensures.none

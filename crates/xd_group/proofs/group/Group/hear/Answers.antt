@@ -3,10 +3,10 @@ use Rattle.xd_links.specs.Runs.{news_of}
 use Rattle.xd_trace.specs.Noted.{noted}
 use Rattle.xd_post.specs.Mails.{mails}
 use Rattle.xd_group_peer.specs.PeerView.{pages_of}
-use Rattle.xd_group.proofs.Keeping.{heard_at, kept_heard, news_started, given_some, given_none, breach_news, worker_there}
+use Rattle.xd_group.proofs.Keeping.{heard_at, kept_heard, news_started, breach_news, worker_there}
 use Rattle.xd_group.proofs.PageFacts.{never}
-use Rattle.xd_group.proofs.Saying.{unsaid_step}
-use Rattle.xd_group.proofs.group.Group.step.Goals as goal
+use Rattle.xd_group.proofs.Saying.{unsaid_heard}
+use Rattle.xd_group.proofs.group.Group.hear.Goals as goal
 
 pub hear_at-requires : goal.hear_at-requires
 hear_at-requires g c =
@@ -36,23 +36,22 @@ invariant_of-self-2 g c =
           (λ k. rw (said.calls, said.workers)
           (kept_heard was.call (news_of (mails was.links.desk)) _ (noted was.diary.calls) (noted was.diary.given) _ was.diary.workers.items (pages_of was.peers.items) _ c.next-number.result.0 c.in-Some.worker c.next-number.result.1 c.in_ok-heard.heard.what c.note_what-news.result took.0
           took.1 took.2 c.in-Some.ensures.at c.in-Some.ensures.started c.in_ok-heard.ensures.heard said.is said.given k));
-      few = λ e. rw (said.fates, c.next-number.ensures.crew) (was.few whole);
-      seats = λ e. rw (said.fates, c.in_ok-heard.ensures.seats) (was.seats whole);
-      spared = λ e. rw (said.fates) (was.spared whole);
+      few = λ e. rw (said.linkages, c.next-number.ensures.crew) (was.few whole);
+      linked = λ e. rw (said.linkages, c.in_ok-heard.ensures.linked) (was.linked whole);
+      spared = λ e. rw (said.linkages) (was.spared whole);
       unsaid = λ e. ∥∥₁_map₂ (was.kept whole) (was.unsaid whole)
           (λ k u. rw (said.workers, said.waiting)
-          (unsaid_step was.call (news_of (mails was.links.desk)) (noted was.diary.calls) (noted was.diary.given) _ was.diary.workers.items (pages_of was.peers.items) _ was.diary.waiting.items c.next-number.result.0 c.in-Some.worker took.0 c.in_ok-heard.heard.what c.note_what-news.result
-          took.1 said.given said.is c.in-Some.ensures.at c.in_ok-heard.ensures.seats k u));
+          (unsaid_heard was.call (news_of (mails was.links.desk)) (noted was.diary.calls) (noted was.diary.given) _ was.diary.workers.items (pages_of was.peers.items) _ was.diary.waiting.items c.next-number.result.0 c.in-Some.worker took.0 c.in_ok-heard.heard.what c.note_what-news.result
+          took.1 said.given said.is c.in-Some.ensures.at c.in_ok-heard.ensures.linked k u));
     }
 
 pub returns-clause-started : goal.returns-clause-started
 returns-clause-started g c = news_started (noted c.args.self.now.diary.calls) c.in-Some.worker c.in_ok-heard.heard.what c.note_what-news.result c.note_what-news.ensures.is c.in-Some.ensures.started
 
-pub returns-clause-given : goal.returns-clause-given
-returns-clause-given g c = given_some (noted c.args.self.now.diary.given) _ c.note_what-news.result c.note_what-news.ensures.given
-
-pub returns-clause-silent : goal.returns-clause-silent
-returns-clause-silent g c = given_none (noted c.args.self.now.diary.given) _ c.note_what-news.result c.note_what-news.ensures.given
+pub returns-clause-gave : goal.returns-clause-gave
+returns-clause-gave g c =
+    let said = c.note_what-news.ensures in
+    ((said.given, said.calls, said.workers, said.linkages), said.waiting)
 
 pub returns-clause-no_breach : goal.returns-clause-no_breach
 returns-clause-no_breach g c = breach_news c.in-Some.worker c.in_ok-heard.heard.what c.note_what-news.result c.note_what-news.ensures.is c.in_ok-heard.ensures.no_breach

@@ -2,7 +2,7 @@ use Rattle.std.proofs.Common.{◌≡◌, ◌∙◌, ap, arith, length, refl, rul
 use Rattle.std.specs.List.{list_all}
 use Rattle.xd_starts.specs.Children.{is_buried}
 use Rattle.xd_starts.proofs.Asking.{buried_all, buried_done, buried_next}
-use Rattle.xd_starts.proofs.children.Children.bury.Goals as goal
+use Rattle.xd_starts.proofs.starts.Starts.bury.Goals as goal
 
 pub loop-number-init : goal.loop-number-init
 loop-number-init g c = record { buried = refl; starts = refl; first = refl }

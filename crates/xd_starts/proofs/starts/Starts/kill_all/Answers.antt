@@ -1,6 +1,6 @@
 use Rattle.std.proofs.Common.{◌≡◌, ◌∙◌, arith, length, rules}
 use Rattle.xd_starts.proofs.Asking.{killed_all, killed_length, killed_next}
-use Rattle.xd_starts.proofs.children.Children.kill_all.Goals as goal
+use Rattle.xd_starts.proofs.starts.Starts.kill_all.Goals as goal
 
 pub loop-number-preserved : goal.loop-number-preserved
 loop-number-preserved g c =

@@ -2,7 +2,7 @@ use Rattle.std.proofs.Common.{refl}
 use Rattle.std.proofs.Math.Logic.{∥∥₁_map}
 use Rattle.xd_starts.specs.Children.{reaped_child}
 use Rattle.xd_starts.proofs.Asking.{changed_set, few_changed, none_changed, reaped_again, tells_reaped}
-use Rattle.xd_starts.proofs.children.Children.reap.Goals as goal
+use Rattle.xd_starts.proofs.starts.Starts.reap.Goals as goal
 
 pub returns-in_default-clause-children : goal.returns-in_default-clause-children
 returns-in_default-clause-children g c = none_changed c.args.self.now.children.items c.args.number reaped_child c.in_default.ensures.none

@@ -2,7 +2,7 @@ use Rattle.std.proofs.Common.{◌≡◌, ◌∷◌, ◌++◌, [], Some, None, ru
 use Rattle.std.proofs.Math.Logic.{∥∥₁_map}
 use Rattle.xd_starts.specs.Children.{fresh_child}
 use Rattle.xd_starts.proofs.Asking.{few_failed, few_more, tells_more, tells_none}
-use Rattle.xd_starts.proofs.children.Children.start.Goals as goal
+use Rattle.xd_starts.proofs.starts.Starts.start.Goals as goal
 
 pub invariant_of-self-in-Ok : goal.invariant_of-self-in-Ok
 invariant_of-self-in-Ok g c =

@@ -12,7 +12,7 @@ use xd_link::{Place, StartFault, Started, Starter};
 /// The children of the links of a hub, by the numbers of the starts, and the starter of them. A start that failed has no
 /// child.
 #[derive(Drop)]
-pub struct Children<St: Starter> {
+pub struct Starts<St: Starter> {
     pub starter: St,
     pub children: Vec<Option<Child>>,
     /// The starter as it was at first.
@@ -29,21 +29,21 @@ pub struct Opened<A, B> {
     pub sink: B,
 }
 
-impl<St: Starter> Children<St> {
+impl<St: Starter> Starts<St> {
     ghost use Rattle.std.specs.Prelude.{◌≡◌, ◌∷◌, ◌++◌, [], ℕ, Some, Option, option_map, is_none, IfOk, IfSome, IfNone, true, OnErr, OnSome, slice_get, vec_len, ◌<◌};
     ghost use Rattle.std.specs.List.{list_all};
     ghost use Rattle.xd_link.specs.FreshLink.{unused};
-    ghost use Rattle.xd_starts.specs.Children.{all_buried, buried_child, child_changed_at, cut_by, is_buried, fresh_child, is_killed_and_reaped, is_killed_if_any, killed_child, reaped_child, starts_told};
+    ghost use Rattle.xd_starts.specs.Children.{all_buried, buried_child, child_changed_at, killed_by, is_buried, fresh_child, is_killed_and_reaped, is_killed_if_any, killed_child, reaped_child, starts_told};
     ghost use Rattle.xd_starts.specs.declared.child.Child.{Child};
 
     /// Nothing was started.
-    pub fn new(alloc: Global, starter: St) -> Children<St>
+    pub fn new(alloc: Global, starter: St) -> Starts<St>
         ensures starter { result.starter ≡ starter }
         ensures first { result.first.value ≡ starter }
         ensures none { result.children.items ≡ [] }
     {
         let first = Snapshot::of(&starter);
-        Children {
+        Starts {
             starter,
             children: Vec::new(alloc),
             first,
@@ -94,8 +94,8 @@ impl<St: Starter> Children<St> {
     }
 
     /// Kills the child of this number, where there is one that was not killed before.
-    pub fn cut(&mut self, number: Option<usize>)
-        ensures children { self.new.children.items ≡ cut_by number self.old.children.items }
+    pub fn kill_if_any(&mut self, number: Option<usize>)
+        ensures children { self.new.children.items ≡ killed_by number self.old.children.items }
         ensures starts { starts_told (St.begun self.new.starter) ≡ starts_told
             (St.begun self.old.starter) }
         ensures first { self.new.first ≡ self.old.first }

@@ -1,7 +1,7 @@
 use Rattle.std.proofs.Common.{◌≡◌}
 use Rattle.xd_starts.specs.Children.{starts_told}
 use Rattle.xd_starts.proofs.Asking.{buried_to}
-use Rattle.xd_starts.proofs.children.Children.bury.Given as goal
+use Rattle.xd_starts.proofs.starts.Starts.bury.Given as goal
 
 abbrev pub invariant-loop-number : goal.invariant-loop-number
 invariant-loop-number g l = record {

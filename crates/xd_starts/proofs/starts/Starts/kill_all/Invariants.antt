@@ -2,7 +2,7 @@ use Rattle.std.proofs.Common.{◌≡◌, length, true}
 use Rattle.std.specs.List.{list_all}
 use Rattle.std.specs.Prelude.{take}
 use Rattle.xd_starts.specs.Children.{is_killed_if_any}
-use Rattle.xd_starts.proofs.children.Children.kill_all.Given as goal
+use Rattle.xd_starts.proofs.starts.Starts.kill_all.Given as goal
 
 abbrev pub invariant-loop-number : goal.invariant-loop-number
 invariant-loop-number g l = record {
