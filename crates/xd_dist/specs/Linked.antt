@@ -1,5 +1,5 @@
 -- A run with workers.
-use Rattle.std.specs.Prelude.{◌≡◌, ℕ, ◌++◌, Bool, true, false, not, List, [], All, length, map, Option, Some, option_map}
+use Rattle.std.specs.Prelude.{◌≡◌, ℕ, ◌++◌, true, false, not, List, [], All, length, map, Option, Some, option_map}
 use Rattle.xd_edge.specs.Faults.{Counted, RoseBy}
 use Rattle.xd_edge.specs.Sink.{Sunk}
 use Rattle.xd_link.specs.Starter.{Begun}

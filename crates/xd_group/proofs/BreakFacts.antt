@@ -1,5 +1,5 @@
 -- Flags of links, and of those to which a write failed.
-use Rattle.std.proofs.Common.{◌≡◌, ℕ, zero, suc, ◌<◌, ◌≤◌, length, List, [], ◌∷◌, ◌++◌, map, Bool, true, false, Option, Some, None, get_or, refl, sym, ◌∙◌, ap, arith, inl, inr}
+use Rattle.std.proofs.Common.{◌≡◌, ℕ, zero, suc, ◌<◌, length, List, [], ◌∷◌, ◌++◌, map, Bool, true, false, Option, Some, None, get_or, refl, sym, ◌∙◌, ap, arith, inl, inr}
 use Rattle.std.specs.Prelude.{◌⊎◌, is_some, option_map, slice_get, slice_set}
 use Rattle.std.specs.Bool.{then_some}
 use Rattle.std.specs.List.{list_any}

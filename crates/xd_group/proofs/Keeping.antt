@@ -1,6 +1,6 @@
 -- All links are kept where one was told or heard, and where one was started.
 use Rattle.std.proofs.Common.{◌≡◌, ℕ, zero, suc, List, [], ◌∷◌, ◌++◌, Option, Some, None, map, length, refl, sym, ◌∙◌, ap, subst, arith, append-nil, inl, inr}
-use Rattle.std.specs.Prelude.{◌⊎◌, ◌<◌, ◌==◌, ◌||◌, ◌&&◌, not, Bool, true, false, IfSome, IfNone, slice_get, slice_set, filter, option_map, option_to_list}
+use Rattle.std.specs.Prelude.{◌⊎◌, ◌<◌, ◌==◌, ◌||◌, ◌&&◌, not, Bool, true, false, IfSome, slice_get, slice_set, filter, option_map, option_to_list}
 use Rattle.std.specs.List.{list_any}
 use Rattle.std.proofs.Math.ListN.{set}
 use Rattle.std.proofs.Common.{All, ◌+◌, length-append}

@@ -1,5 +1,5 @@
 -- What a hub that ends its links keeps of them: nothing is told and nothing said any more.
-use Rattle.std.specs.Prelude.{◌≡◌, ◌++◌, ◌∷◌, [], ℕ, true, List, Option, Some, None, map, slice_get, slice_set}
+use Rattle.std.specs.Prelude.{◌≡◌, ℕ, true, List, Option, Some, None, map, slice_get, slice_set}
 use Rattle.xd_group_peer.specs.declared.worker_call.WorkerCall.{WorkerCall}
 use Rattle.xd_journal.specs.declared.entry.Entry.{Entry}
 use Rattle.xd_journal.specs.declared.news.What.{What}

@@ -1,4 +1,3 @@
-use Rattle.std.proofs.Common.{◌∙◌}
 use Rattle.xd_group.proofs.Marking.{marks_heard, seen_gave}
 use Rattle.xd_group.proofs.gateway_hub.GatewayHubHub.next.Goals as goal
 
