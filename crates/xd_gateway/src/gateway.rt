@@ -107,6 +107,13 @@ impl<K: Sink> Gateway<K> {
         &mut self.side
     }
 
+    /// The sink, to be looked at.
+    pub fn sink(&self) -> &K
+        ensures { result.now ≡ sink_of self.now }
+    {
+        &self.sink
+    }
+
     /// The sink, with what it took.
     pub fn into_sink(self) -> K
         ensures { result ≡ sink_of self }
