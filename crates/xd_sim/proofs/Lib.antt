@@ -1,0 +1,9 @@
+mod Hubs
+mod Links
+mod Peers
+mod Ran
+mod Runs
+mod Shapes
+mod Suites
+mod Workers
+mod Written

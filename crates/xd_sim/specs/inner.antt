@@ -1,0 +1,5 @@
+pub mod Hub
+pub mod Link
+pub mod Peer
+pub mod SameCalls
+pub mod Worker
