@@ -1,6 +1,8 @@
 mod Hubs
 mod Links
 mod Peers
+mod Opens
+mod Pieces
 mod Ran
 mod Runs
 mod Shapes

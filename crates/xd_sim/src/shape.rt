@@ -1,5 +1,6 @@
 // What a run is that a number names, and how its tests go.
-ghost use Rattle.std.specs.Prelude.{◌≡◌, ◌≤◌, ◌<◌, ◌^◌, IfOk, OnOk};
+ghost use Rattle.std.specs.Prelude.{◌≡◌, ◌≤◌, ◌<◌, ◌^◌, length, IfOk, OnOk};
+ghost use Rattle.xd_edge.specs.Limits.{most_piece_bytes};
 ghost use Rattle.xd_edge.specs.declared.mode.ModeKind.TheVariants.{Local};
 ghost use Rattle.xd_sim.specs.Shape.{is_sim_failure, sim_mode, mode_numbered, sim_ms, sim_outcome, sim_piece, sim_settings, sim_tests, sim_workers};
 
@@ -91,7 +92,8 @@ pub fn sim_ms(test: u32) -> u64
 
 /// What the test prints where it fails.
 pub fn sim_piece(alloc: Global, test: u32) -> Result<Blob, OutOfMemory>
-    ensures { IfOk result (λ b. b ≡ sim_piece test) }
+    ensures is { IfOk result (λ b. b ≡ sim_piece test) }
+    ensures short { IfOk result (λ b. length b ≤ most_piece_bytes) }
 {
     let mut piece = Vec::new(alloc);
     add_text(&mut piece, "out ")?;

@@ -178,7 +178,10 @@ impl SimLink {
         ensures worker { self.new.worker ≡ self.old.worker }
     {
         match deed {
-            Deed::Hear => self.hear(),
+            Deed::Hear => {
+                let news = self.hear()?;
+                Ok(news)
+            }
             Deed::Take => {
                 self.take(suite)?;
                 Ok(None)
@@ -187,7 +190,10 @@ impl SimLink {
                 self.far.end_test(alloc)?;
                 Ok(None)
             }
-            Deed::TellEnd => self.tell_end(),
+            Deed::TellEnd => {
+                let news = self.tell_end()?;
+                Ok(news)
+            }
         }
     }
 
@@ -206,7 +212,8 @@ impl SimLink {
         if is_lost {
             return Err(OutOfMemory);
         }
-        self.carry()
+        self.carry()?;
+        Ok(())
     }
 
     // The controller takes the next message.
@@ -223,7 +230,8 @@ impl SimLink {
         let Some(message) = self.far.next() else {
             return Ok(None);
         };
-        hear_item(&mut self.peer, LinkNews::Message(message))
+        let news = hear_item(&mut self.peer, LinkNews::Message(message))?;
+        Ok(news)
     }
 
     /// The controller is told that the link has ended.
@@ -237,7 +245,8 @@ impl SimLink {
         ensures no_breach { IfOk result (λ x. IfSome x (λ what. is_breach what ≡ false)) }
         ensures worker { self.new.worker ≡ self.old.worker }
     {
-        hear_item(&mut self.peer, LinkNews::End(LinkStop::Ended))
+        let news = hear_item(&mut self.peer, LinkNews::End(LinkStop::Ended))?;
+        Ok(news)
     }
 
     // The worker takes its next message, and the suite where it asks for it.
@@ -247,7 +256,8 @@ impl SimLink {
         ensures same { (self.new.worker ≡ self.old.worker) × (self.new.peer ≡ self.old.peer) }
     {
         self.take_message()?;
-        self.far.give_suite(suite)
+        self.far.give_suite(suite)?;
+        Ok(())
     }
 
     // The worker takes its next message.
@@ -261,7 +271,8 @@ impl SimLink {
         let Some(message) = self.to_worker.next() else {
             return Ok(());
         };
-        self.far.take(message)
+        self.far.take(message)?;
+        Ok(())
     }
 
     /// The worker dies. Of the messages from it that are on the way the first ones stay, as many as the number modulo one

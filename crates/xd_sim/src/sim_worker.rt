@@ -87,7 +87,8 @@ impl SimWorker {
         ensures { (n : ℕ) (heard ms : List MessageView) → WorkerKeeps n heard ms self.old →
             OnOk result (Took n heard ms (message ∷ []) self.new) }
     {
-        self.give(WorkerInput::Message(message))
+        self.give(WorkerInput::Message(message))?;
+        Ok(())
     }
 
     /// It is given the suite, where it asked for it.
@@ -100,7 +101,8 @@ impl SimWorker {
             return Ok(());
         }
         let bytes = suite.copy()?;
-        self.give(WorkerInput::SuiteBytes(bytes))
+        self.give(WorkerInput::SuiteBytes(bytes))?;
+        Ok(())
     }
 
     /// The running test gives its piece, where it has one, and ends.
@@ -110,7 +112,8 @@ impl SimWorker {
         ensures lives { self.new.has_ended ≡ false → self.old.has_ended ≡ false }
     {
         self.give_piece(alloc)?;
-        self.give_end()
+        self.give_end()?;
+        Ok(())
     }
 
     // The running test gives its piece, where it has one.
@@ -126,7 +129,8 @@ impl SimWorker {
             return Ok(());
         }
         let piece = sim_piece(alloc, test)?;
-        self.give(WorkerInput::Output(piece))
+        self.give(WorkerInput::Output(piece))?;
+        Ok(())
     }
 
     // The running test ends.
@@ -138,10 +142,10 @@ impl SimWorker {
         let Some(test) = self.running() else {
             return Ok(());
         };
-        self.give(WorkerInput::ChildDone {
-            outcome: sim_outcome(test),
-            ms: sim_ms(test),
-        })
+        let outcome = sim_outcome(test);
+        let ms = sim_ms(test);
+        self.give(WorkerInput::ChildDone { outcome, ms })?;
+        Ok(())
     }
 
     // Something comes to the worker. What it says is on the way then.
@@ -154,7 +158,8 @@ impl SimWorker {
         match self.core.step(input) {
             Ok(acts) => {
                 let WorkerActions { say, .. } = acts;
-                self.send(say)
+                self.send(say)?;
+                Ok(())
             }
             Err(WorkerFault::OutOfMemory) => Err(OutOfMemory),
             // A worker that cannot take a message ends. A controller sends no such message.

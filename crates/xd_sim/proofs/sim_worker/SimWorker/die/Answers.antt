@@ -1,0 +1,6 @@
+use Rattle.std.proofs.Common.{refl, rules}
+use Rattle.xd_sim.proofs.Workers.{worker_died}
+use Rattle.xd_sim.proofs.sim_worker.SimWorker.die.Goals as goal
+
+pub returns-clause-stands : goal.returns-clause-stands
+returns-clause-stands c n heard ms k = worker_died n heard ms c.args.self.now _ _ k refl (search rules)
