@@ -1,3 +1,4 @@
+mod Fresh
 mod Hubs
 mod Links
 mod Peers

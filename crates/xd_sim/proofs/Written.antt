@@ -12,6 +12,7 @@ use Rattle.xd_value.specs.Tree.{Tree}
 use Rattle.xd_value.specs.declared.writing.DumpFault.{DumpFault}
 use Rattle.xd_frame.specs.Framer.{IsFirstOf}
 use Rattle.xd_frame.specs.Message.{IsMessage, MessageView, frame, frames}
+use Rattle.xd_frame.specs.Stream as stream
 use Rattle.xd_frame.specs.Stream.{left_over, messages}
 use Rattle.xd_frame.proofs.Longest.{messages-frames}
 use Rattle.xd_frame.proofs.Streams.{messages-append}
@@ -84,6 +85,7 @@ link_messages suite mode orders news short =
 -- ---- a first part
 
 pub part_messages : (k : ℕ) (ms : List MessageView) → AllByRecursion IsMessage ms → IsFirstOf (messages (take k (frames ms))) ms
+unfolding stream.parts stream.parts_within
 part_messages k ms each =
     let whole : messages (frames ms) ≡ ms = ap messages (sym (append-nil (frames ms))) ∙ (messages-frames ms [] each ∙ append-nil ms) in
     let parts : frames ms ≡ take k (frames ms) ++ drop k (frames ms) = sym (take-append-drop k (frames ms)) in (

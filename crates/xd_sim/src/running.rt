@@ -1,6 +1,7 @@
 // A run that a number names.
-ghost use Rattle.std.specs.Prelude.{◌≡◌, ◌≤◌, true, not, IfOk, OnOk};
+ghost use Rattle.std.specs.Prelude.{◌≡◌, ◌≤◌, is_ok, IfOk};
 ghost use Rattle.xd_edge.specs.Faults.{Counted};
+ghost use Rattle.xd_report.specs.Printing.{ShowsEnd};
 ghost use Rattle.xd_report.specs.Status.{status_of};
 ghost use Rattle.xd_run.specs.State.{no_one};
 ghost use Rattle.xd_sim.specs.Shape.{sim_settings};
@@ -13,7 +14,7 @@ use crate::summary::sim_text;
 use std::alloc::Global;
 use std::sync::Wait;
 use xd_drive::{DrivenRun, drive};
-use xd_edge::{ModeKind, OutOfMemory, Sink, print};
+use xd_edge::{Failed, ModeKind, OutOfMemory, Sink, print};
 use xd_journal::{Journal, Settings};
 use xd_ledger::Mode;
 use xd_load::{Each, Load};
@@ -47,17 +48,20 @@ pub fn sim<R: Wait, O: Sink>(
 {
     let SimEnd { journal, status } = run(rt, alloc, number)?;
     let text = sim_text(alloc, number, &journal, status)?;
-    let status = if show(out, text.as_slice()) {
-        status
-    } else {
-        3
-    };
-    Ok(SimEnd { journal, status })
+    match show(out, text.as_slice()) {
+        Ok(()) => Ok(SimEnd { journal, status }),
+        Err(Failed) => Ok(SimEnd { journal, status: 3 }),
+    }
 }
 
-// PrintsSim the text and closes the output. False where the output failed.
-fn show<O: Sink>(out: &mut O, text: &[u8]) -> bool {
-    print(out, text).is_ok() && out.close().is_ok()
+// Prints the text and closes the output.
+fn show<O: Sink>(out: &mut O, text: &[u8]) -> Result<(), Failed>
+    ensures shows { ShowsEnd (is_ok result) text.now (O.sunk out.old) (O.sunk out.new) }
+    ensures counted { Counted (is_ok result) (O.faults out.old) (O.faults out.new) }
+{
+    print(out, text)?;
+    out.close()?;
+    Ok(())
 }
 
 // The run.
