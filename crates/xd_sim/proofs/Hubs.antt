@@ -45,7 +45,7 @@ set_same (v ∷ ws) (suc k) w e = ap (λ (l : List ℕ). v ∷ l) (set_same ws k
 pub worker_at : (links : List SimLink) (k : ℕ) (l : SimLink) → slice_get links k ≡ Some l → slice_get (workers_in links) k ≡ Some l.worker
 worker_at links k l e = slice_get-map (λ (x : SimLink). x.worker) links k ∙ ap (option_map (λ (x : SimLink). x.worker)) e
 
-workers_set : (links : List SimLink) (at : ℕ) (old new : SimLink) → slice_get links at ≡ Some old → new.worker ≡ old.worker → workers_in (slice_set links at new) ≡ workers_in links
+pub workers_set : (links : List SimLink) (at : ℕ) (old new : SimLink) → slice_get links at ≡ Some old → new.worker ≡ old.worker → workers_in (slice_set links at new) ≡ workers_in links
 workers_set links at old new e same =
     map-set (λ (x : SimLink). x.worker) links at new
     ∙ (ap (λ (w : ℕ). slice_set (workers_in links) at w) same ∙ set_same (workers_in links) at old.worker (worker_at links at old e))

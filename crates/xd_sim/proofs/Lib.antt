@@ -1,12 +1,13 @@
 mod Fresh
 mod Hubs
 mod Links
-mod Peers
 mod Opens
+mod Peers
 mod Pieces
 mod Ran
 mod Runs
 mod Shapes
 mod Suites
+mod Turns
 mod Workers
 mod Written

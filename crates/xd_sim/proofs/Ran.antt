@@ -110,7 +110,7 @@ module _ {K : Type 0} where
         news_are = t.said_are ∙ ap (λ (c : Cause). all_news h.heard ++ Gone c ∷ []) (ended_cause t.why t.failed same.1 t.still);
       }
 
-short_path : length (encode_utf8_all suite_path) ≤ 65536
+pub short_path : length (encode_utf8_all suite_path) ≤ 65536
 unfolding lib.Utf8.encode
 short_path = omega arith
 

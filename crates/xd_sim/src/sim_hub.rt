@@ -219,9 +219,9 @@ impl SimHub {
         ensures whole { OnOk result (self.new.is_whole ≡ true) }
     {
         self.is_whole = false;
-        let worker = self.links[at].worker;
-        let what = self.links[at].act(alloc, deed, &self.suite)?;
-        let news = note(&mut self.given, worker, what);
+        let link = &mut self.links[at];
+        let what = link.act(alloc, deed, &self.suite)?;
+        let news = note(&mut self.given, link.worker, what);
         self.is_whole = true;
         Ok(news)
     }

@@ -84,7 +84,7 @@ impl SimLink {
         ensures worker { IfOk result (λ l. l.worker ≡ worker) }
         ensures stands { (n : ℕ) → suite.now ≡ suite_path → mode ≡ sim_mode n →
             IfOk result (LinkStands n) }
-        ensures open { IfOk result IsLinkOpen }
+        ensures opened { IfOk result IsLinkOpen }
         ensures fresh { IfOk result (λ l. (link_told l ≡ []) × (link_said l ≡ [])) }
     {
         let peer = Peer::begin(alloc, ByteSink::new(alloc), suite, mode)?;
@@ -167,11 +167,11 @@ impl SimLink {
         deed: Deed,
         suite: &Blob,
     ) -> Result<Option<What>, OutOfMemory>
-        requires open { IsLinkOpen self.old }
+        requires opened { IsLinkOpen self.old }
         requires live { self.old.peer.is_ended ≡ false }
         ensures stands { (n : ℕ) → suite.now ≡ suite_bytes n → LinkStands n self.old →
             OnOk result (LinkStands n self.new) }
-        ensures open { OnOk result (IsLinkOpen self.new) }
+        ensures opened { OnOk result (IsLinkOpen self.new) }
         ensures said { IfOk result (λ x. link_said self.new ≡ link_said self.old ++ option_to_list x) }
         ensures told { link_told self.new ≡ link_told self.old }
         ensures no_breach { IfOk result (λ x. IfSome x (λ what. is_breach what ≡ false)) }
@@ -200,10 +200,10 @@ impl SimLink {
     /// Tells the worker an order.
     pub fn tell(&mut self, alloc: Global, order: &Entry) -> Result<(), OutOfMemory>
         requires order { IsSome (order_of order.now) }
-        requires open { IsLinkOpen self.old }
+        requires opened { IsLinkOpen self.old }
         requires going { list_any is_end (link_said self.old) ≡ false }
         ensures stands { (n : ℕ) → LinkStands n self.old → OnOk result (LinkStands n self.new) }
-        ensures open { OnOk result (IsLinkOpen self.new) }
+        ensures opened { OnOk result (IsLinkOpen self.new) }
         ensures told { OnOk result (link_told self.new ≡ link_told self.old ++ order.now ∷ []) }
         ensures said { link_said self.new ≡ link_said self.old }
         ensures worker { self.new.worker ≡ self.old.worker }
@@ -218,10 +218,10 @@ impl SimLink {
 
     // The controller takes the next message.
     fn hear(&mut self) -> Result<Option<What>, OutOfMemory>
-        requires open { IsLinkOpen self.old }
+        requires opened { IsLinkOpen self.old }
         requires live { self.old.peer.is_ended ≡ false }
         ensures stands { (n : ℕ) → LinkStands n self.old → OnOk result (LinkStands n self.new) }
-        ensures open { OnOk result (IsLinkOpen self.new) }
+        ensures opened { OnOk result (IsLinkOpen self.new) }
         ensures said { IfOk result (λ x. link_said self.new ≡ link_said self.old ++ option_to_list x) }
         ensures told { link_told self.new ≡ link_told self.old }
         ensures no_breach { IfOk result (λ x. IfSome x (λ what. is_breach what ≡ false)) }
@@ -236,10 +236,10 @@ impl SimLink {
 
     /// The controller is told that the link has ended.
     pub fn tell_end(&mut self) -> Result<Option<What>, OutOfMemory>
-        requires open { IsLinkOpen self.old }
+        requires opened { IsLinkOpen self.old }
         requires live { self.old.peer.is_ended ≡ false }
         ensures stands { (n : ℕ) → LinkStands n self.old → OnOk result (LinkStands n self.new) }
-        ensures open { OnOk result (IsLinkOpen self.new) }
+        ensures opened { OnOk result (IsLinkOpen self.new) }
         ensures said { IfOk result (λ x. link_said self.new ≡ link_said self.old ++ option_to_list x) }
         ensures told { link_told self.new ≡ link_told self.old }
         ensures no_breach { IfOk result (λ x. IfSome x (λ what. is_breach what ≡ false)) }
