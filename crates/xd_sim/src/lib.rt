@@ -1,5 +1,5 @@
-//! A large run that a number names: the session, the modes, the controller's ends of links and the workers' cores, in one
-//! program and without threads. Turns, deaths and outcomes follow from the number alone.
+//! A large run that a number names: the session, the modes, the controller's ends of links and the workers' cores, in
+//! one program and without threads. Turns, deaths and outcomes follow from the number alone.
 #![tactic(auto)]
 
 mod draws;

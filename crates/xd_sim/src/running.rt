@@ -33,8 +33,8 @@ pub struct SimEnd {
     pub status: u8,
 }
 
-/// Runs what the number names and prints four lines of it: what it is, how its tests went, what became of its workers, and
-/// its status. The output is closed then.
+/// Runs what the number names and prints four lines of it: what it is, how its tests went, what became of its workers,
+/// and its status. The output is closed then.
 pub fn sim<R: Wait, O: Sink>(
     rt: &R,
     alloc: Global,

@@ -31,7 +31,7 @@ pub enum Deed {
     TellEnd,
 }
 
-/// One worker at its end of a link, the controller's end of the link, and the messages between them, in both directions.
+/// One worker at its end of a link, the controller's end, and the messages between them, in both directions.
 #[derive(Drop)]
 pub struct SimLink {
     /// The worker, counted from 0 in the order of the starts.
@@ -131,7 +131,8 @@ impl SimLink {
         self.peer.is_ended
     }
 
-    /// What can be done, by whether the controller is asked first, or the running test. After its end was told nothing is.
+    /// What can be done, by whether the controller is asked first, or the running test. After its end was told nothing
+    /// is.
     pub fn deed(&self, is_controller_first: bool) -> Option<Deed>
         ensures live { IsSome result → self.now.peer.is_ended ≡ false }
     {
@@ -275,8 +276,8 @@ impl SimLink {
         Ok(())
     }
 
-    /// The worker dies. Of the messages from it that are on the way the first ones stay, as many as the number modulo one
-    /// more than there are.
+    /// The worker dies. Of the messages from it that are on the way the first ones stay, as many as the number modulo
+    /// one more than there are.
     pub fn die(&mut self, number: u64)
         ensures stands { (n : ℕ) → LinkStands n self.old → LinkStands n self.new }
         ensures same { (self.new.worker ≡ self.old.worker) × (self.new.peer ≡ self.old.peer) }

@@ -183,8 +183,8 @@ impl SimWorker {
         Ok(())
     }
 
-    /// The worker dies. Of the messages from it that are on the way the first ones stay, as many as the number modulo one
-    /// more than there are.
+    /// The worker dies. Of the messages from it that are on the way the first ones stay, as many as the number modulo
+    /// one more than there are.
     pub fn die(&mut self, number: u64)
         ensures stands { (n : ℕ) (heard ms : List MessageView) → WorkerKeeps n heard ms self.old →
             WorkerKeeps n heard ms self.new }
