@@ -17,9 +17,9 @@ use Rattle.xd_reader.specs.declared.news.LinkNews.{LinkNews}
 use Rattle.xd_reader.specs.declared.news.LinkNews.TheVariants.{Message, End}
 use Rattle.xd_reader.specs.declared.news.LinkStop.TheVariants as stop
 use Rattle.xd_sim.specs.declared.sim_worker.SimWorker.{SimWorker}
-use Rattle.xd_sim.specs.inner.Link.{Carries, LinkKeeps}
+use Rattle.xd_sim.specs.inner.Link.{IsCarried, LinkKeeps}
 use Rattle.xd_sim.specs.inner.Peer.{IsPeerOf, end_item}
-use Rattle.xd_sim.specs.inner.Worker.{Took, WorkerKeeps}
+use Rattle.xd_sim.specs.inner.Worker.{CameOrEnded, WorkerKeeps}
 use Rattle.xd_sim.proofs.Workers.{not_both, worker_ends}
 
 -- ---- the worker
@@ -42,16 +42,16 @@ far_same n page bytes lost s fed old new keeps lives l = record {
 -- the worker took what was next
 pub far_took : (n : ℕ) (page : Page) (bytes : List ℕ) (lost : Bool) (s t : FramerView) (fed : ℕ) (old new : SimWorker) (m : MessageView)
     → ((b : List ℕ) (taken : List MessageView) → StandsForBytes s b taken → StandsForBytes t b (taken ++ m ∷ [])) → old.has_ended ≡ false
-    → ((heard came : List MessageView) → WorkerKeeps n heard came old → Took n heard came (m ∷ []) new) → LinkKeeps n page bytes lost s fed old → LinkKeeps n page bytes lost t fed new
+    → ((heard came : List MessageView) → WorkerKeeps n heard came old → CameOrEnded n heard came (m ∷ []) new) → LinkKeeps n page bytes lost s fed old → LinkKeeps n page bytes lost t fed new
 far_took n page bytes lost s t fed old new m next lives takes l = by (takes l.heard l.came l.worker)
   where
-    carries : Carries bytes fed t (l.took ++ m ∷ [])
+    carries : IsCarried bytes fed t (l.took ++ m ∷ [])
     carries = record { within = l.carries.within; stands = next (take fed bytes) l.took l.carries.stands }
 
     same : l.took ++ m ∷ [] ≡ l.came ++ m ∷ []
     same = ap (λ (x : List MessageView). x ++ m ∷ []) (l.came_all lives)
 
-    by : Took n l.heard l.came (m ∷ []) new → LinkKeeps n page bytes lost t fed new
+    by : CameOrEnded n l.heard l.came (m ∷ []) new → LinkKeeps n page bytes lost t fed new
     by (inl k) = record {
       took = l.took ++ m ∷ [];
       came = l.came ++ m ∷ [];
@@ -78,7 +78,7 @@ far_took n page bytes lost s t fed old new m next lives takes l = by (takes l.he
 -- ---- what is carried
 
 -- all that was written was fed
-fed_all : (bytes : List ℕ) (fed : ℕ) (s t : FramerView) (took : List MessageView) → ((b : List ℕ) (taken : List MessageView) → StandsForBytes s b taken → StandsForBytes t (b ++ drop fed bytes) taken) → Carries bytes fed s took → Carries bytes (length bytes) t took
+fed_all : (bytes : List ℕ) (fed : ℕ) (s t : FramerView) (took : List MessageView) → ((b : List ℕ) (taken : List MessageView) → StandsForBytes s b taken → StandsForBytes t (b ++ drop fed bytes) taken) → IsCarried bytes fed s took → IsCarried bytes (length bytes) t took
 fed_all bytes fed s t took feeds c = record {
   within = omega arith;
   stands = subst (λ b. StandsForBytes t b took) (take-append-drop fed bytes ∙ sym (take_all (length bytes) bytes (omega arith))) (feeds (take fed bytes) took c.stands);
@@ -107,7 +107,7 @@ far_ends n page bytes lost s fed old new ended queue l =
 -- ---- the controller's end
 
 -- more was written
-more_bytes : (bytes more : List ℕ) (fed : ℕ) (s : FramerView) (took : List MessageView) → Carries bytes fed s took → Carries (bytes ++ more) fed s took
+more_bytes : (bytes more : List ℕ) (fed : ℕ) (s : FramerView) (took : List MessageView) → IsCarried bytes fed s took → IsCarried (bytes ++ more) fed s took
 more_bytes bytes more fed s took c = record {
   within = let short = c.within in let all = length-append bytes more in omega (arith, short, all);
   stands = subst (λ b. StandsForBytes s b took) (sym (take-append-le fed bytes more c.within)) c.stands;
@@ -122,7 +122,7 @@ peer_more n p q bytes more all was lost s fed old new l heard told worker lives 
   heard = heard;
   told = told;
   worker = worker;
-  carries = subst (λ b. Carries b fed s l.took) (sym is) (more_bytes bytes more fed s l.took l.carries);
+  carries = subst (λ b. IsCarried b fed s l.took) (sym is) (more_bytes bytes more fed s l.took l.carries);
   came_are = l.came_are;
   came_all = λ e. l.came_all (lives e);
   peer = own;

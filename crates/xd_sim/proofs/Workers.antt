@@ -8,7 +8,7 @@ use Rattle.xd_worker.specs.declared.input.WorkerActions.{WorkerActions}
 use Rattle.xd_worker.specs.declared.input.WorkerInput.{WorkerInput}
 use Rattle.xd_sim.specs.History.{IsOfRun}
 use Rattle.xd_sim.specs.declared.sim_worker.SimWorker.{SimWorker}
-use Rattle.xd_sim.specs.inner.Worker.{Took, WorkerKeeps}
+use Rattle.xd_sim.specs.inner.Worker.{CameOrEnded, WorkerKeeps}
 
 -- a test cannot come out both ways
 pub not_both : (b : Bool) → b ≡ true → b ≡ false → ⊥
@@ -29,7 +29,7 @@ worker_new n w stands none = record {
 
 -- an input was answered
 pub worker_took : (n : ℕ) (heard ms : List MessageView) (old new : SimWorker) (input : WorkerInput) (acts : WorkerActions) (k : WorkerKeeps n heard ms old) → IsOfRun n (worker_after k.history) input → IsDue (worker_after k.history) input → old.has_ended ≡ false
-    → Answers new.core (worker_after k.history) input acts → new.to_controller.items ≡ old.to_controller.items ++ acts.say → Took n heard ms (message_in input) new
+    → Answers new.core (worker_after k.history) input acts → new.to_controller.items ≡ old.to_controller.items ++ acts.say → CameOrEnded n heard ms (message_in input) new
 worker_took n heard ms old new input acts k own due lives a queue =
     let all : heard ++ new.to_controller.items ≡ all_said (a.heard ∷ k.history) =
     ap (λ (q : List MessageView). heard ++ q) queue
@@ -58,11 +58,11 @@ worker_ends n heard ms old new k ended queue = record {
 }
 
 -- an input was refused
-pub worker_refused : (n : ℕ) (heard ms more : List MessageView) (old new : SimWorker) → WorkerKeeps n heard ms old → new.has_ended ≡ true → new.to_controller.items ≡ old.to_controller.items → Took n heard ms more new
+pub worker_refused : (n : ℕ) (heard ms more : List MessageView) (old new : SimWorker) → WorkerKeeps n heard ms old → new.has_ended ≡ true → new.to_controller.items ≡ old.to_controller.items → CameOrEnded n heard ms more new
 worker_refused n heard ms more old new k ended queue = inr (worker_ends n heard ms old new k ended queue, ended)
 
 -- an input that is no message came
-pub took_none : (n : ℕ) (heard ms : List MessageView) (w : SimWorker) → Took n heard ms [] w → WorkerKeeps n heard ms w
+pub took_none : (n : ℕ) (heard ms : List MessageView) (w : SimWorker) → CameOrEnded n heard ms [] w → WorkerKeeps n heard ms w
 took_none n heard ms w (inl k) = subst (λ (l : List MessageView). WorkerKeeps n heard l w) (append-nil ms) k
 took_none n heard ms w (inr k) = k.0
 

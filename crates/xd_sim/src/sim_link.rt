@@ -102,7 +102,7 @@ impl SimLink {
         Ok(link)
     }
 
-    // Carries to the worker what the controller wrote.
+    // IsCarried to the worker what the controller wrote.
     fn carry(&mut self) -> Result<(), OutOfMemory>
         ensures stands { (n : ℕ) → LinkStands n self.old → OnOk result (LinkStands n self.new) }
         ensures same { (self.new.worker ≡ self.old.worker) × (self.new.peer ≡ self.old.peer) }

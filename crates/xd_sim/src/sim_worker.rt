@@ -27,7 +27,7 @@ fn is_last(message: &Message) -> bool {
 
 impl SimWorker {
     ghost use Rattle.xd_sim.specs.History.{IsOfRun};
-    ghost use Rattle.xd_sim.specs.inner.Worker.{Took, WorkerKeeps};
+    ghost use Rattle.xd_sim.specs.inner.Worker.{CameOrEnded, WorkerKeeps};
     ghost use Rattle.xd_frame.specs.Message.{MessageView};
     ghost use Rattle.xd_worker.specs.History.{HeardInput, worker_after};
     ghost use Rattle.xd_worker.specs.Stands.{StandsForInputs};
@@ -85,7 +85,7 @@ impl SimWorker {
     pub fn take(&mut self, message: Message) -> Result<(), OutOfMemory>
         requires lives { self.old.has_ended ≡ false }
         ensures { (n : ℕ) (heard ms : List MessageView) → WorkerKeeps n heard ms self.old →
-            OnOk result (Took n heard ms (message ∷ []) self.new) }
+            OnOk result (CameOrEnded n heard ms (message ∷ []) self.new) }
     {
         self.give(WorkerInput::Message(message))?;
         Ok(())
@@ -153,7 +153,7 @@ impl SimWorker {
         requires lives { self.old.has_ended ≡ false }
         ensures { (n : ℕ) (heard ms : List MessageView) (k : WorkerKeeps n heard ms self.old) →
             IsOfRun n (worker_after k.history) input → IsDue (worker_after k.history) input →
-            OnOk result (Took n heard ms (message_in input) self.new) }
+            OnOk result (CameOrEnded n heard ms (message_in input) self.new) }
     {
         match self.core.step(input) {
             Ok(acts) => {

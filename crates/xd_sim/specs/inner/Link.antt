@@ -17,7 +17,7 @@ abbrev pub written_by : SimLink → List ℕ
 written_by l = (sink_of l.peer.gateway).bytes.items
 
 -- So many of these bytes were fed to the framer, and these messages taken of them.
-pub record Carries (bytes : List ℕ) (fed : ℕ) (s : FramerView) (took : List MessageView) : Type 0 where
+pub record IsCarried (bytes : List ℕ) (fed : ℕ) (s : FramerView) (took : List MessageView) : Type 0 where
   pub within : fed ≤ length bytes
   pub stands : StandsForBytes s (take fed bytes) took
 
@@ -30,7 +30,7 @@ pub record LinkKeeps (n : ℕ) (page : Page) (bytes : List ℕ) (lost : Bool) (s
   pub heard : List MessageView
   pub told : Bool
   pub worker : WorkerKeeps n heard came far
-  pub carries : Carries bytes fed s took
+  pub carries : IsCarried bytes fed s took
   pub came_are : IsFirstOf came took
   pub came_all : far.has_ended ≡ false → took ≡ came
   pub peer : IsPeerOf n page lost heard told

@@ -21,5 +21,5 @@ pub record WorkerKeeps (n : ℕ) (heard came : List MessageView) (w : SimWorker)
   pub said_all : w.has_ended ≡ false → heard ++ w.to_controller.items ≡ all_said history
 
 -- These messages came to it as well, or they were refused, and then it has ended.
-abbrev pub Took : ℕ → List MessageView → List MessageView → List MessageView → SimWorker → Type 0
-Took n heard came more w = WorkerKeeps n heard (came ++ more) w ⊎ (WorkerKeeps n heard came w × (w.has_ended ≡ true))
+abbrev pub CameOrEnded : ℕ → List MessageView → List MessageView → List MessageView → SimWorker → Type 0
+CameOrEnded n heard came more w = WorkerKeeps n heard (came ++ more) w ⊎ (WorkerKeeps n heard came w × (w.has_ended ≡ true))
