@@ -1,6 +1,6 @@
 -- What a run is that a number names: how many tests and workers it has, its mode, and how each test goes. A choice of
 -- this project.
-use Rattle.std.specs.Prelude.{ℕ, ◌+◌, ◌*◌, ◌/◌, ◌%◌, ◌==◌, Bool, List, ◌++◌, None, pos, codes, if◌then◌else◌}
+use Rattle.std.specs.Prelude.{ℕ, true, ◌+◌, ◌*◌, ◌/◌, ◌%◌, ◌==◌, Bool, List, ◌++◌, None, pos, codes, if◌then◌else◌}
 use Rattle.std.specs.Fmt.{decimal}
 use Rattle.xd_edge.specs.declared.mode.ModeKind.{ModeKind}
 use Rattle.xd_edge.specs.declared.mode.ModeKind.TheVariants.{Each, Load, LoadScope, LoadFile, LoadGroup, WorkSteal}

@@ -5,8 +5,8 @@ use Rattle.xd_worker.specs.declared.worker.WorkerCore.{WorkerCore}
 use Rattle.xd_sim.proofs.Workers.{worker_refused, worker_took}
 use Rattle.xd_sim.proofs.sim_worker.SimWorker.give.Goals as goal
 
-pub returns-in-Ok : goal.returns-in-Ok
-returns-in-Ok c n heard ms k own due =
+pub returns-in_ok-send-in-Ok : goal.returns-in_ok-send-in-Ok
+returns-in_ok-send-in-Ok c n heard ms k own due =
     let lives = c.requires.lives in
     let answers = c.in-Ok.ensures.answers k.history (k.core_is lives) in
     worker_took n heard ms c.args.self.now _ c.args.input c.in-Ok.acts k own due lives
