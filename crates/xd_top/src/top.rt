@@ -1,5 +1,6 @@
 // The top call.
-ghost use Rattle.std.specs.Prelude.{◌≡◌, [], false, IfNone, IfOk};
+ghost use Rattle.std.specs.Prelude.{◌≡◌, [], true, false, IfNone, IfOk};
+ghost use Rattle.std.specs.Str.{all_scalars};
 ghost use Rattle.xd_dist.specs.Linked.{ended_links};
 ghost use Rattle.xd_edge.specs.Clock.{ticking};
 ghost use Rattle.xd_top.specs.Named.{tests_seen};
@@ -135,6 +136,7 @@ pub fn xdrun<
             settings,
             places,
         } => {
+            text_law(&suite);
             let suite = LinkedSuite {
                 path: suite,
                 settings,
@@ -185,6 +187,13 @@ pub fn xdrun<
         turns: None,
         tests: end.moments,
     })
+}
+
+// Each character of a text is a Unicode scalar value.
+fn text_law(text: &Text)
+    ensures { all_scalars text.now ≡ true }
+{
+    let _ = text.as_str();
 }
 
 fn without_run<K: Children, O>(status: u8, children: K) -> LocalEnd<K, O>
