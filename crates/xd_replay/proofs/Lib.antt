@@ -1,10 +1,13 @@
 pub mod Agreeing
 pub mod Coming
 pub mod Exact
+pub mod FailedLines
+pub mod Failures
 pub mod Limits
 pub mod Lone
 pub mod Once
 pub mod Playing
+pub mod Rows
 pub mod Tells
 pub mod Unique
 pub mod Walking

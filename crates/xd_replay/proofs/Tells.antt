@@ -43,7 +43,7 @@ use Rattle.xd_replay.specs.inner.Good.{spent_at}
 few-of : (n : ℕ) (bs : List ℕ) → length bs ≤ n → nat_le (length bs) n ≡ true
 few-of n bs h = grind (arith, nat_tests, h)
 
-taken-few : (n : ℕ) (bs : List ℕ) → nat_le (length (take n bs)) n ≡ true
+pub taken-few : (n : ℕ) (bs : List ℕ) → nat_le (length (take n bs)) n ≡ true
 taken-few n bs = (let e = length-take n bs in few-of n (take n bs) (omega (arith, e)))
 
 none-any : (items : List ℕ) → list_any (λ item. false) items ≡ false

@@ -1,5 +1,6 @@
 pub mod Alone
 pub mod Checked
+pub mod Failed
 pub mod Limits
 pub mod Told
 pub mod Verdict

@@ -11,6 +11,7 @@ ghost use Rattle.xd_session.specs.History.{run_of};
 ghost use Rattle.xd_session.specs.Stands.{CanBegin};
 ghost use Rattle.xd_replay.specs.Alone.{AreAlone, all_kept, most_retries};
 ghost use Rattle.xd_replay.specs.Checked.{CanBeLeft, IsChecked};
+ghost use Rattle.xd_replay.specs.Failed.{AreFailedLines, failed_ids};
 ghost use Rattle.xd_replay.specs.Verdict.{IsVerdict};
 ghost use Rattle.xd_replay.specs.declared.checking.Verdict.{Verdict};
 
@@ -31,4 +32,10 @@ pub fn checked_law()
 /// Of a journal one thing is found: it is checked, or it stops being such at one place.
 pub fn verdict_law()
     ensures { (v w : Verdict) (j : Journal) → IsVerdict v j → IsVerdict w j → v ≡ w }
+{}
+
+/// The ids of failed tests are those that the lines FAILED and CRASHED of the report give, each once: each id has such a
+/// line, and each such line one of the ids.
+pub fn failed_law()
+    ensures { (j : Journal) → AreFailedLines j (failed_ids j) }
 {}

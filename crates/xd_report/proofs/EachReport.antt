@@ -35,7 +35,7 @@ one_item : (b : Bool) (f : ℕ → ℕ) (i : ℕ) → (item : ℕ) × ((if b the
 one_item true f i = (f i, refl)
 one_item false f i = (i, refl)
 
-done-reports : (s : State) (w i : ℕ) (outcome : Outcome) (ms : ℕ) (out : List ℕ) → (item : ℕ) × (reports_of s (Done w i outcome ms out) ≡ Result w item outcome ∷ [])
+pub done-reports : (s : State) (w i : ℕ) (outcome : Outcome) (ms : ℕ) (out : List ℕ) → (item : ℕ) × (reports_of s (Done w i outcome ms out) ≡ Result w item outcome ∷ [])
 done-reports s w i outcome ms out =
     let one = one_item (is_each s.plan.mode) (λ x. base (slot_of w s.books) s.plan + x) i in
     (one.0, ap (map (λ item. Result w item outcome)) one.1)
@@ -185,7 +185,7 @@ after_effect-settings s (Shutdown w) = refl
 after_effect-settings s (Kill w) = refl
 after_effect-settings s (Over how) = refl
 
-reached-settings : (s : State) (e : Entry) → (reached s e).books.settings ≡ s.books.settings
+pub reached-settings : (s : State) (e : Entry) → (reached s e).books.settings ≡ s.books.settings
 reached-settings s e = either (is_input e) (settled s) s s.books.settings refl refl
 
 pub next-settings : (s : State) (e : Entry) → (after_entry s e).books.settings ≡ s.books.settings
@@ -217,14 +217,14 @@ join mode a b rs ss x y = record {
   each_once = told-append x.lines y.lines ∙ ap (λ (l : List Report). l ++ reports_told y.lines) x.each_once ∙ ap (λ (l : List Report). rs ++ l) y.each_once;
 }
 
-nothing : (mode : ModeKind) → HasLineEach mode [] []
+abbrev pub nothing : (mode : ModeKind) → HasLineEach mode [] []
 nothing mode = record { lines = []; text_is = refl; each_once = refl }
 
 -- one line that is of no report, and one that is
-plain_line : (mode : ModeKind) (l : Line) → reports_told (l ∷ []) ≡ [] → HasLineEach mode (text_of_line mode l) []
+abbrev pub plain_line : (mode : ModeKind) (l : Line) → reports_told (l ∷ []) ≡ [] → HasLineEach mode (text_of_line mode l) []
 plain_line mode l none = record { lines = l ∷ []; text_is = sym (append-nil (text_of_line mode l)); each_once = none }
 
-report_line : (mode : ModeKind) (report : Report) (id : List ℕ) → HasLineEach mode (text_of_line mode (Of report id)) (report ∷ [])
+abbrev pub report_line : (mode : ModeKind) (report : Report) (id : List ℕ) → HasLineEach mode (text_of_line mode (Of report id)) (report ∷ [])
 report_line mode report id = record { lines = Of report id ∷ []; text_is = sym (append-nil (text_of_line mode (Of report id))); each_once = refl }
 
 perhaps : (mode : ModeKind) (b : Bool) (l : Line) → reports_told (l ∷ []) ≡ [] → HasLineEach mode (if b then text_of_line mode l else []) []

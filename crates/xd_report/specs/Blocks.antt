@@ -1,6 +1,6 @@
 -- The blocks of what failed: a failed test, or a test at the head of a worker that went down, which is not tried again. A choice
 -- of this project.
-use Rattle.std.specs.Prelude.{ℕ, ℤ, zero, suc, ◌-◌, ◌≡◌, ◌==◌, Bool, true, false, List, [], ◌∷◌, ◌++◌, length, take, Some, None, is_some, slice_index_or, negsuc, if◌then◌else◌, codes}
+use Rattle.std.specs.Prelude.{ℕ, ℤ, zero, suc, ◌-◌, ◌≡◌, ◌==◌, Bool, true, false, List, [], ◌∷◌, ◌++◌, length, take, Option, Some, None, is_some, option_map, slice_index_or, negsuc, if◌then◌else◌, codes}
 use Rattle.std.specs.List.{HoldsAt}
 use Rattle.std.specs.Fmt.{decimal, signed_decimal}
 use Rattle.xd_edge.specs.declared.mode.ModeKind.{ModeKind}
@@ -67,6 +67,13 @@ abbrev pub is_failed_report : State → Entry → Bool
 is_failed_report s (Done worker index (Failed code) ms output) = true
 is_failed_report s (Down worker cause output) = is_some (crash_of worker s)
 is_failed_report s _ = false
+
+-- the id of the test of an entry that is a failed report
+-- Example: gw0 holds a and b and goes down: a, unless a is tried again.
+abbrev pub failed_id : State → Entry → Option (List ℕ)
+failed_id s (Done worker index (Failed code) ms output) = Some (id_of worker index s)
+failed_id s (Down worker cause output) = option_map (λ item. item_id worker item s) (crash_of worker s)
+failed_id s _ = None
 
 -- the blocks of these entries after a state
 abbrev pub blocks_from : State → List Entry → List ℕ

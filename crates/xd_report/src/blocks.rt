@@ -1,14 +1,15 @@
 // The blocks of what failed.
-ghost use Rattle.std.specs.Prelude.{◌≡◌, ◌<◌, ◌++◌, length, IfOk, OnOk, true, ◌∷◌, []};
+ghost use Rattle.std.specs.Prelude.{◌≡◌, ◌<◌, ◌++◌, length, IfOk, OnOk, true, ◌∷◌, [], option_map};
 ghost use Rattle.xd_run.specs.Sharing.{State};
 ghost use Rattle.std.specs.List.{HoldsAt};
 ghost use Rattle.std.specs.Str.{chars};
-ghost use Rattle.xd_report.specs.Blocks.{block, block_of, count_line, crash_block, crash_reason, heading_line, state_before, is_failed_report, line_end, output_text, reason_of, IsBlockAt, IsFailedAt};
+ghost use Rattle.xd_report.specs.Blocks.{block, block_of, count_line, crash_block, crash_reason, failed_id, heading_line, state_before, is_failed_report, line_end, output_text, reason_of, IsBlockAt, IsFailedAt};
 ghost use Rattle.xd_report.specs.Follows.{Follows};
+ghost use Rattle.xd_report.specs.Tests.{crash_of, item_id};
 
 use crate::reporter::Reporter;
 use std::alloc::Global;
-use xd_edge::{Blob, ModeKind, OutOfMemory};
+use xd_edge::{Blob, ModeKind, OutOfMemory, Text};
 use xd_journal::{Entry, Journal, Outcome};
 use xd_report_phrases::{add, add_name, add_number, add_plain, add_tag, add_text};
 
@@ -102,6 +103,41 @@ impl Reporter {
             } => true,
             Entry::Down { worker, .. } => self.crash_of(*worker).is_some(),
             _ => false,
+        }
+    }
+
+    /// The id of the test of an entry that comes next, where it is a failed report: a failed test, or the end of a worker
+    /// that held one, where that is not tried again.
+    pub fn failed_id(&self, alloc: Global, entry: &Entry) -> Result<Option<Text>, OutOfMemory>
+        ensures { (s : State) → Follows self.now s →
+            IfOk result (λ id. id ≡ failed_id s entry.now) }
+    {
+        match entry {
+            Entry::Done {
+                worker,
+                index,
+                outcome: Outcome::Failed(_),
+                ..
+            } => {
+                let id = Text::of(alloc, self.id_of(*worker, *index as u64))?;
+                Ok(Some(id))
+            }
+            Entry::Down { worker, .. } => self.crashed_id(alloc, *worker),
+            _ => Ok(None),
+        }
+    }
+
+    // The id of the test at the head of a worker that went down, where it is not tried again.
+    fn crashed_id(&self, alloc: Global, worker: u32) -> Result<Option<Text>, OutOfMemory>
+        ensures { (s : State) → Follows self.now s → IfOk result (λ id.
+            id ≡ option_map (λ item. item_id worker item s) (crash_of worker s)) }
+    {
+        match self.crash_of(worker) {
+            Some(item) => {
+                let id = Text::of(alloc, self.item_id(worker, item)?)?;
+                Ok(Some(id))
+            }
+            None => Ok(None),
         }
     }
 }
