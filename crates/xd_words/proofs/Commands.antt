@@ -12,9 +12,11 @@ unlike : (word text : List ℕ) → word ≢ text → bytes_eq word text ≡ fal
 unlike word text differs = false_from_ne_true (bytes_eq word text) (λ same. differs ((bytes_eq-Decides word text).0 same))
 
 pub no_command : (words : List (Bor (List ℕ))) (d : Bor (List ℕ))
-    → (get_or words 0 d).now ≢ codes "worker" → (get_or words 0 d).now ≢ codes "wire" → (get_or words 0 d).now ≢ codes "socketserver"
+    → (get_or words 0 d).now ≢ codes "worker" → (get_or words 0 d).now ≢ codes "wire" → (get_or words 0 d).now ≢ codes "replay"
+    → (get_or words 0 d).now ≢ codes "socketserver"
     → main_plan (rows_in main_app (map (λ w. w.now) words)) ≡ plan_of_utf8 (map (λ w. w.now) words)
 unfolding plan_of_utf8
-no_command [] d worker wire socket = refl
-no_command (w ∷ ws) d worker wire socket =
-    rw (unlike w.now (codes "worker") worker) (rw (unlike w.now (codes "wire") wire) (rw (unlike w.now (codes "socketserver") socket) refl))
+no_command [] d worker wire replay socket = refl
+no_command (w ∷ ws) d worker wire replay socket =
+    rw (unlike w.now (codes "worker") worker) (rw (unlike w.now (codes "wire") wire)
+    (rw (unlike w.now (codes "replay") replay) (rw (unlike w.now (codes "socketserver") socket) refl)))

@@ -1,6 +1,6 @@
 -- What the words of the main command say, option by option. The options are pytest-xdist's, but for SUITE and
 -- --crash-retries.
-use Rattle.std.specs.Prelude.{ℕ, ◌==◌, nat_le, Bool, true, false, ◌&&◌, not, List, [], ◌∷◌, map, length, Option, Some, None, is_some, unwrap_or, option_and_then, if◌then◌else◌, codes}
+use Rattle.std.specs.Prelude.{ℕ, ◌==◌, nat_le, Bool, true, false, ◌&&◌, not, List, [], ◌∷◌, map, length, Option, Some, None, is_some, unwrap_or, option_and_then, option_map, if◌then◌else◌, codes}
 use Rattle.std.specs.Str.{bytes_eq, chars, encode_utf8_all}
 use Rattle.clap.specs.Words.{App, Kinds, Row, all_of, fault_of, first_of, matches_of}
 use Rattle.xd_edge.specs.declared.mode.ModeKind.{ModeKind}
@@ -90,6 +90,10 @@ is_well_formed rows = is_mode (first_of (codes "dist") rows) && has_numbers rows
 abbrev pub path_of : List ℕ → List Row → List ℕ
 path_of id rows = chars (unwrap_or (first_of id rows) [])
 
+-- the characters of the value of an option, if it stands
+abbrev pub option_text : List ℕ → List Row → Option (List ℕ)
+option_text id rows = option_map chars (first_of id rows)
+
 -- what well formed words say
 unfoldable pub asked_of : List Row → Asked
 asked_of rows = record {
@@ -104,4 +108,14 @@ asked_of rows = record {
   chunk = number 1000000 (codes "maxschedchunk") rows;
   reorder = not (flag (codes "no-loadscope-reorder") rows);
   retries = number 100 (codes "crash-retries") rows;
+  journal = option_text (codes "journal") rows;
 }
+
+-- an option that does not stand, or whose value is a path
+abbrev pub is_path_or_none : Option (List ℕ) → Bool
+is_path_or_none None = true
+is_path_or_none (Some path) = is_path path
+
+-- the path of the suite is one, and so is that of the journal, where it stands
+abbrev pub has_paths : Asked → Bool
+has_paths a = is_path a.suite && is_path_or_none a.journal

@@ -10,11 +10,12 @@ use Rattle.xd_link.specs.declared.place.Place.TheVariants.{Popen}
 use Rattle.xd_spec.specs.declared.fault.SpecFault.{SpecFault}
 use Rattle.xd_spec.specs.Spec.{address_in}
 use Rattle.xd_spec.specs.Tx.{tx_of}
-use Rattle.xd_words.specs.Asked.{asked_of, is_path, is_well_formed, path_of, rows_in}
-use Rattle.xd_words.specs.Command.{main_app, socketserver_app, wire_app, worker_app}
+use Rattle.xd_words.specs.Asked.{asked_of, has_paths, is_path, is_well_formed, path_of, rows_in}
+use Rattle.xd_words.specs.Command.{file_app, main_app, socketserver_app, worker_app}
 use Rattle.xd_words.specs.declared.asked.Asked.{Asked}
+use Rattle.xd_words.specs.declared.keeps.Keeps.{Keeps}
 use Rattle.xd_words.specs.declared.plan.Plan.{Plan}
-use Rattle.xd_words.specs.declared.plan.Plan.TheVariants.{Local, Linked, Wire, Worker, SocketServer, Refused}
+use Rattle.xd_words.specs.declared.plan.Plan.TheVariants.{Local, Linked, Wire, Replay, Worker, SocketServer, Refused}
 use Rattle.xd_words.specs.declared.refusal.WordsRefusal.{WordsRefusal}
 use Rattle.xd_words.specs.declared.refusal.WordsRefusal.TheVariants.{BadWords, CountWithPlaces, FirstWithMaxfail, LoadWithDist, NoWorkers, BadSpec}
 
@@ -57,9 +58,15 @@ settings_of a workers = record {
   retries = unwrap_or a.retries 0;
 }
 
+-- the journal, where --journal names its file
+abbrev pub keeps_of : Option (List ℕ) → Keeps
+keeps_of file = record { journal = file }
+
 -- without workers the tests are run in the program itself
 unfoldable pub plan_with_places : Asked → List Place → Plan
-plan_with_places a places = if length places == 0 then Local a.suite (maxfail_of a) else Linked a.suite (settings_of a (length places)) places
+plan_with_places a places =
+    if length places == 0 then Local a.suite (maxfail_of a) (keeps_of a.journal)
+    else Linked a.suite (settings_of a (length places)) places (keeps_of a.journal)
 
 -- a run at these places, or the refusal of the words of --tx
 abbrev pub run_where : Asked → Result (List Place) SpecFault → Plan
@@ -77,7 +84,7 @@ plan_for a = refused_or (exclusion a) (run_where a (places_of a))
 
 -- what the main command is to do, by what stands among its words
 unfoldable pub plan_by : List Row → Plan
-plan_by rows = if is_well_formed rows && is_path (path_of (codes "suite") rows) then plan_for (asked_of rows) else Refused BadWords
+plan_by rows = if is_well_formed rows && has_paths (asked_of rows) then plan_for (asked_of rows) else Refused BadWords
 
 -- what the main command is to do; words that clap refuses are bad
 abbrev pub main_plan : Option (List Row) → Plan
@@ -91,10 +98,20 @@ abbrev pub worker_plan : Option (List Row) → Plan
 worker_plan None = Refused BadWords
 worker_plan (Some rows) = Worker
 
+-- the file that is named, where its path is one
+abbrev pub named_file : Option (List Row) → Option (List ℕ)
+named_file None = None
+named_file (Some rows) = if is_path (path_of (codes "file") rows) then Some (path_of (codes "file") rows) else None
+
 -- what `wire FILE` is to do
-abbrev pub wire_plan : Option (List Row) → Plan
-wire_plan None = Refused BadWords
-wire_plan (Some rows) = if is_path (path_of (codes "file") rows) then Wire (path_of (codes "file") rows) else Refused BadWords
+abbrev pub wire_of : Option (List ℕ) → Plan
+wire_of None = Refused BadWords
+wire_of (Some file) = Wire file
+
+-- what `replay FILE` is to do
+abbrev pub replay_of : Option (List ℕ) → Plan
+replay_of None = Refused BadWords
+replay_of (Some file) = Replay file
 
 -- the host and the port where one connection is waited for
 abbrev pub serve_at : Option (List ℕ × ℕ) → Plan
@@ -113,7 +130,8 @@ unfoldable pub plan_of_utf8 : List (List ℕ) → Plan
 plan_of_utf8 [] = main_plan (rows_in main_app [])
 plan_of_utf8 (w ∷ ws) =
     if bytes_eq w (codes "worker") then worker_plan (rows_in worker_app ws)
-    else if bytes_eq w (codes "wire") then wire_plan (rows_in wire_app ws)
+    else if bytes_eq w (codes "wire") then wire_of (named_file (rows_in file_app ws))
+    else if bytes_eq w (codes "replay") then replay_of (named_file (rows_in file_app ws))
     else if bytes_eq w (codes "socketserver") then socketserver_plan (rows_in socketserver_app ws)
     else main_plan (rows_in main_app (w ∷ ws))
 
@@ -137,5 +155,5 @@ pub record FitsRun (suite : List ℕ) (settings : Settings) (places : List Place
 
 -- a run on workers keeps these limits; the other plans have none
 abbrev pub Fits : Plan → Type 0
-Fits (Linked suite settings places) = FitsRun suite settings places
+Fits (Linked suite settings places keeps) = FitsRun suite settings places
 Fits _ = Unit {0}

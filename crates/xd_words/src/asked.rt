@@ -2,8 +2,8 @@
 ghost use Rattle.std.specs.Prelude.{◌≡◌, ◌≢◌, ◌≤◌, IfOk, IfSome, option_and_then, option_map, codes};
 ghost use Rattle.clap.specs.Words.{first_of, found_of, rows_of};
 ghost use Rattle.xd_edge.specs.declared.mode.ModeKind.TheVariants.{Local as WithoutWorkers};
-ghost use Rattle.xd_words.specs.Asked.{asked_of, has_numbers, is_mode, is_number, is_path, is_positive, is_well_formed};
-ghost use Rattle.xd_words.specs.Asked.{mode_named, number, path_of, plain_number, starts_with_zero};
+ghost use Rattle.xd_words.specs.Asked.{asked_of, has_numbers, has_paths, is_mode, is_number, is_path, is_path_or_none, is_positive};
+ghost use Rattle.xd_words.specs.Asked.{is_well_formed, mode_named, number, option_text, path_of, plain_number, starts_with_zero};
 
 use crate::matches::{flag, value, values};
 use clap::ArgMatches;
@@ -35,6 +35,8 @@ pub struct Asked {
     pub reorder: bool,
     /// `--crash-retries R`, at most 100.
     pub retries: Option<u32>,
+    /// `--journal FILE`.
+    pub journal: Option<Text>,
 }
 
 /// What well formed words say.
@@ -50,6 +52,7 @@ pub fn asked_of(alloc: Global, matches: &ArgMatches) -> Result<Asked, OutOfMemor
 {
     let suite = path_of(alloc, matches, "suite")?;
     let tx = values(alloc, matches, "tx")?;
+    let journal = option_text(alloc, matches, "journal")?;
     Ok(Asked {
         suite,
         count: number(matches, "n", 32),
@@ -62,6 +65,7 @@ pub fn asked_of(alloc: Global, matches: &ArgMatches) -> Result<Asked, OutOfMemor
         chunk: number(matches, "maxschedchunk", 1_000_000),
         reorder: !flag(matches, "no-loadscope-reorder"),
         retries: number(matches, "crash-retries", 100),
+        journal,
     })
 }
 
@@ -91,6 +95,22 @@ pub fn is_path(path: &Text) -> bool
     path.as_str().len() <= 65_536
 }
 
+/// The path of the suite is one, and so is that of the journal, where it stands.
+pub fn has_paths(asked: &Asked) -> bool
+    ensures { result ≡ has_paths asked.now }
+{
+    is_path(&asked.suite) && is_path_or_none(&asked.journal)
+}
+
+fn is_path_or_none(path: &Option<Text>) -> bool
+    ensures { result ≡ is_path_or_none path.now }
+{
+    match path {
+        Some(path) => is_path(path),
+        None => true,
+    }
+}
+
 /// A word that stands by itself.
 pub fn path_of(alloc: Global, matches: &ArgMatches, id: &str) -> Result<Text, OutOfMemory>
     ensures { IfOk result (λ path. path ≡ path_of id.now (rows_of (found_of matches.now))) }
@@ -98,6 +118,17 @@ pub fn path_of(alloc: Global, matches: &ArgMatches, id: &str) -> Result<Text, Ou
     let path = value(matches, id).unwrap_or("");
     let path = Text::of(alloc, path)?;
     Ok(path)
+}
+
+// The value of an option, where it stands.
+fn option_text(alloc: Global, matches: &ArgMatches, id: &str) -> Result<Option<Text>, OutOfMemory>
+    ensures { IfOk result (λ text. text ≡ option_text id.now (rows_of (found_of matches.now))) }
+{
+    let Some(text) = value(matches, id) else {
+        return Ok(None);
+    };
+    let text = Text::of(alloc, text)?;
+    Ok(Some(text))
 }
 
 fn is_number(text: Option<&str>, limit: u32) -> bool

@@ -1,7 +1,7 @@
 // The commands, as clap reads their words.
 ghost use Rattle.std.specs.Prelude.{◌≡◌, IfOk, false, true};
 ghost use Rattle.clap.specs.Words.{app_of, is_simple_and_free, rule_of, with_rule};
-ghost use Rattle.xd_words.specs.Command.{main_app, plain_app, socketserver_app, wire_app, worker_app};
+ghost use Rattle.xd_words.specs.Command.{file_app, main_app, plain_app, socketserver_app, worker_app};
 ghost use Rattle.xd_words.specs.Command.{long_flag_rule, long_rule, path_rule, repeated_rule, short_flag_rule, short_rule};
 
 use clap::{Arg, ArgAction, Command};
@@ -91,13 +91,14 @@ pub fn main_command<'a>(alloc: Global) -> Result<Command<'a>, AllocError>
     let command = with_arg(command, long(alloc, "maxschedchunk"))?;
     let command = with_arg(command, long_flag(alloc, "no-loadscope-reorder"))?;
     let command = with_arg(command, long(alloc, "crash-retries"))?;
+    let command = with_arg(command, long(alloc, "journal"))?;
     Ok(command)
 }
 
-/// `wire FILE`, after its name.
-#[tactic(auto, unfolding(crate::specs::Command::wire_app))]
-pub fn wire_command<'a>(alloc: Global) -> Result<Command<'a>, AllocError>
-    ensures app { IfOk result (λ c. app_of c ≡ wire_app) }
+/// `wire FILE` and `replay FILE`, after their names.
+#[tactic(auto, unfolding(crate::specs::Command::file_app))]
+pub fn file_command<'a>(alloc: Global) -> Result<Command<'a>, AllocError>
+    ensures app { IfOk result (λ c. app_of c ≡ file_app) }
     ensures simple { IfOk result (λ c. is_simple_and_free (app_of c) ≡ true) }
 {
     let command = with_arg(plain(alloc), path(alloc, "file"))?;

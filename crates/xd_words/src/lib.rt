@@ -4,11 +4,13 @@
 
 mod asked;
 mod command;
+mod keeps;
 mod matches;
 mod places;
 mod plan;
 mod refusal;
 
+pub use keeps::Keeps;
 pub use places::Places;
 pub use plan::{Plan, plan_of};
 pub use refusal::WordsRefusal;

@@ -4,9 +4,9 @@ ghost use Rattle.std.specs.Str.{chars};
 ghost use Rattle.clap.specs.Words.{all_of, app_of, first_of, found_of, is_simple_and_free, rows_of};
 ghost use Rattle.clap.specs.declared.error.kind.ErrorKind.TheVariants.{OutOfMemory as NoMemory};
 ghost use Rattle.xd_words.specs.Asked.{flag, rows_in, option_texts};
-ghost use Rattle.xd_words.specs.Command.{main_app, socketserver_app, wire_app, worker_app};
+ghost use Rattle.xd_words.specs.Command.{file_app, main_app, socketserver_app, worker_app};
 
-use crate::command::{main_command, socketserver_command, wire_command, worker_command};
+use crate::command::{file_command, main_command, socketserver_command, worker_command};
 use clap::error::ErrorKind;
 use clap::{ArgMatches, Command};
 use std::alloc::Global;
@@ -25,15 +25,15 @@ pub fn main_matches<'a, 'b>(
     Ok(matches)
 }
 
-/// The same of `wire FILE`.
-pub fn wire_matches<'a, 'b>(
+/// The same of `wire FILE` and `replay FILE`.
+pub fn file_matches<'a, 'b>(
     alloc: Global,
     words: &'a [&'b str],
 ) -> Result<Option<ArgMatches<'a>>, OutOfMemory>
     ensures { IfOk result (λ r.
-        option_map (λ m. rows_of (found_of m)) r ≡ rows_in wire_app (map (λ w. w.now) words.now)) }
+        option_map (λ m. rows_of (found_of m)) r ≡ rows_in file_app (map (λ w. w.now) words.now)) }
 {
-    let command = wire_command(alloc)?;
+    let command = file_command(alloc)?;
     let matches = matches_in(command, words)?;
     Ok(matches)
 }

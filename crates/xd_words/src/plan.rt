@@ -8,13 +8,13 @@ ghost use Rattle.xd_spec.specs.declared.fault.SpecFault.TheVariants.{OutOfMemory
 ghost use Rattle.xd_spec.specs.Spec.{address_in};
 ghost use Rattle.xd_spec.specs.Tx.{tx_of};
 ghost use Rattle.xd_words.specs.Asked.{rows_in};
-ghost use Rattle.xd_words.specs.Command.{main_app, socketserver_app, wire_app, worker_app};
-ghost use Rattle.xd_words.specs.Words.{Fits, exclusion, main_plan, maxfail_of, places_of, plan_by, plan_for, plan_of};
-ghost use Rattle.xd_words.specs.Words.{plan_of_utf8, plan_with_places, serve_at, settings_of, socketserver_plan, wire_plan, worker_plan};
+ghost use Rattle.xd_words.specs.Command.{file_app, main_app, socketserver_app, worker_app};
+ghost use Rattle.xd_words.specs.Words.{Fits, exclusion, named_file, keeps_of, main_plan, maxfail_of, places_of, plan_by, plan_for};
+ghost use Rattle.xd_words.specs.Words.{plan_of, plan_of_utf8, plan_with_places, replay_of, serve_at, settings_of, socketserver_plan, wire_of, worker_plan};
 
-use crate::asked::{Asked, asked_of, is_path, is_well_formed, path_of};
-use crate::matches::{main_matches, socketserver_matches, value, wire_matches, worker_matches};
-use crate::{Places, WordsRefusal};
+use crate::asked::{Asked, asked_of, has_paths, is_path, is_well_formed, path_of};
+use crate::matches::{file_matches, main_matches, socketserver_matches, value, worker_matches};
+use crate::{Keeps, Places, WordsRefusal};
 use clap::ArgMatches;
 use std::alloc::Global;
 use xd_edge::{Env, ModeKind, OutOfMemory, Text};
@@ -29,15 +29,21 @@ pub enum Plan {
     Local {
         suite: Text,
         maxfail: u32,
+        keeps: Keeps,
     },
     /// The tests of a suite file are run on workers at these places.
     Linked {
         suite: Text,
         settings: Settings,
         places: Places,
+        keeps: Keeps,
     },
     /// `wire FILE`: a file of messages is printed as text.
     Wire {
+        file: Text,
+    },
+    /// `replay FILE`: the report of a journal is printed again.
+    Replay {
         file: Text,
     },
     /// `worker`: the program's own streams are served as a worker.
@@ -90,6 +96,10 @@ fn plan_of_texts(alloc: Global, words: &[&str]) -> Result<Plan, OutOfMemory>
             let plan = wire_plan(alloc, rest)?;
             Ok(plan)
         }
+        "replay" => {
+            let plan = replay_plan(alloc, rest)?;
+            Ok(plan)
+        }
         "socketserver" => {
             let plan = socketserver_plan(alloc, rest)?;
             Ok(plan)
@@ -114,17 +124,39 @@ fn worker_plan(alloc: Global, words: &[&str]) -> Result<Plan, OutOfMemory>
 
 fn wire_plan(alloc: Global, words: &[&str]) -> Result<Plan, OutOfMemory>
     ensures plan { IfOk result (λ plan.
-        plan ≡ wire_plan (rows_in wire_app (map (λ w. w.now) words.now))) }
+        plan ≡ wire_of (named_file (rows_in file_app (map (λ w. w.now) words.now)))) }
     ensures fits { IfOk result Fits }
 {
-    let Some(matches) = wire_matches(alloc, words)? else {
-        return Ok(Plan::Refused(WordsRefusal::BadWords));
+    match named_file(alloc, words)? {
+        Some(file) => Ok(Plan::Wire { file }),
+        None => Ok(Plan::Refused(WordsRefusal::BadWords)),
+    }
+}
+
+fn replay_plan(alloc: Global, words: &[&str]) -> Result<Plan, OutOfMemory>
+    ensures plan { IfOk result (λ plan.
+        plan ≡ replay_of (named_file (rows_in file_app (map (λ w. w.now) words.now)))) }
+    ensures fits { IfOk result Fits }
+{
+    match named_file(alloc, words)? {
+        Some(file) => Ok(Plan::Replay { file }),
+        None => Ok(Plan::Refused(WordsRefusal::BadWords)),
+    }
+}
+
+// The file that these words name, where they name one alone.
+fn named_file(alloc: Global, words: &[&str]) -> Result<Option<Text>, OutOfMemory>
+    ensures { IfOk result (λ file.
+        file ≡ named_file (rows_in file_app (map (λ w. w.now) words.now))) }
+{
+    let Some(matches) = file_matches(alloc, words)? else {
+        return Ok(None);
     };
     let file = path_of(alloc, &matches, "file")?;
     if is_path(&file) {
-        Ok(Plan::Wire { file })
+        Ok(Some(file))
     } else {
-        Ok(Plan::Refused(WordsRefusal::BadWords))
+        Ok(None)
     }
 }
 
@@ -173,7 +205,7 @@ fn plan_by(alloc: Global, matches: &ArgMatches) -> Result<Plan, OutOfMemory>
     ensures fits { IfOk result Fits }
 {
     let asked = asked_of(alloc, matches)?;
-    if is_well_formed(matches) && is_path(&asked.suite) {
+    if is_well_formed(matches) && has_paths(&asked) {
         let plan = plan_for(alloc, asked)?;
         Ok(plan)
     } else {
@@ -297,6 +329,7 @@ fn run_at(asked: Asked, places: Places) -> Plan
         return Plan::Local {
             suite: asked.suite,
             maxfail,
+            keeps: keeps_of(asked.journal),
         };
     }
     let settings = settings_of(&asked, places.items.len() as u32);
@@ -304,7 +337,14 @@ fn run_at(asked: Asked, places: Places) -> Plan
         suite: asked.suite,
         settings,
         places,
+        keeps: keeps_of(asked.journal),
     }
+}
+
+fn keeps_of(journal: Option<Text>) -> Keeps
+    ensures { result ≡ keeps_of journal }
+{
+    Keeps { journal }
 }
 
 fn maxfail_of(asked: &Asked) -> u32
