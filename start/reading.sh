@@ -14,7 +14,7 @@ read_words() {
     fault= bad_spec= suite= children= address= notes=
     kind=run names=0 workers=0 seen=' ' waiting= ended=
     case "${1-}" in
-        worker | wire | socketserver)
+        worker | wire | replay | socketserver)
             kind=$1
             shift
             ;;
@@ -27,7 +27,7 @@ read_words() {
     [ -z "$waiting" ] || fault="$waiting has no value"
     case "$fault$names$kind" in
         0run) fault="no suite is named" ;;
-        0wire) fault="no file is named" ;;
+        0wire | 0replay) fault="no file is named" ;;
         0socketserver) fault="no HOST:PORT is named" ;;
     esac
     if [ -z "$bad_spec" ] && [ "$workers" -gt $most_workers ]; then
@@ -79,7 +79,7 @@ read_option() {
     option=$1
     case "$kind,$1" in
         run,-d | run,-x | run,--no-loadscope-reorder | run,-n | run,--dist | run,--tx | run,--maxfail) ;;
-        run,--max-worker-restart | run,--maxschedchunk | run,--crash-retries) ;;
+        run,--max-worker-restart | run,--maxschedchunk | run,--crash-retries | run,--journal) ;;
         *,-h | *,--help | *,--version) fault="$1 stands alone" ;;
         *) fault="$word is no option" ;;
     esac
@@ -104,6 +104,7 @@ read_value() {
         --max-worker-restart) read_number "$@" 0 1000 ;;
         --maxschedchunk) read_number "$@" 1 1000000 ;;
         --crash-retries) read_number "$@" 0 100 ;;
+        --journal) read_path "$2" ;;
         --tx) [ -n "$bad_spec" ] || read_places "$2" || bad_spec="--tx $2 is no SPEC" ;;
         --dist)
             case "$2" in
@@ -127,13 +128,17 @@ read_name() {
     names=$((names + 1))
     case "$kind$names" in
         run1) suite=$1 ;;
-        wire1) ;;
+        wire1 | replay1) ;;
         socketserver1)
             address=$1
             is_address "$1" || fault="$1 is no HOST:PORT with a port from 1 to 65535"
             ;;
         *) fault="$1 is a word too many" ;;
     esac
+    read_path "$1"
+}
+
+read_path() {
     [ ${#1} -le 65536 ] || fault="a name has over 65,536 bytes"
 }
 

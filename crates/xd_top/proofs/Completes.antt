@@ -1,5 +1,6 @@
 -- An honest run of words completes.
-use Rattle.std.proofs.Common.{◌≡◌, ◌∙◌, ℕ, true, List, [], All, Some, refl, sym, subst}
+use Rattle.std.proofs.Common.{◌≡◌, ◌∙◌, ℕ, true, List, [], All, refl, sym, subst}
+use Rattle.std.specs.Prelude.{Option}
 use Rattle.std.specs.Str.{all_scalars}
 use Rattle.xd_journal.specs.declared.journal.Journal.{Journal}
 use Rattle.xd_journal.specs.declared.settings.Settings.{Settings}
@@ -13,7 +14,9 @@ use Rattle.xd_local.specs.Local.{RoundSeen}
 use Rattle.xd_words.specs.Words.{Fits, FitsRun}
 use Rattle.xd_words.specs.declared.plan.Plan.{Plan}
 use Rattle.xd_words.specs.declared.plan.Plan.TheVariants.{Linked}
-use Rattle.xd_top.specs.Linked.{RunsOnWorkers, seen_by_run}
+use Rattle.xd_words.specs.declared.keeps.Keeps.{Keeps}
+use Rattle.xd_top.specs.Keeping.{KeepsAround}
+use Rattle.xd_top.specs.Linked.{DidLinked}
 use Rattle.xd_top.specs.Outside.{Outside}
 use Rattle.xd_top.specs.Top.{Did}
 use Rattle.xd_top.proofs.Begins.{can_begin}
@@ -31,23 +34,18 @@ completes suite s places fits j code links old new moments run text still gives 
     complete (record { suite = suite; settings = s; places = places }) j code links old new moments (proper_by suite s places fits)
     (record { scalars = text; short = fits.short; on_workers = fits.shared }) run still gives
 
--- what the words of a run on workers came to, where they fit, from the record of its run
-pub did_linked : (asked found : Plan) (suite : List ℕ) (s : Settings) (places : List Place) → found ≡ asked → found ≡ Linked suite s places → Fits found → all_scalars suite ≡ true
-    → (code : ℕ) (j : Journal) (links : List EndedLink) (turns : List TurnScene) (tests : List RoundSeen) (old new : Outside)
+-- where the words of a run on workers fit, so do what it is handed
+pub fits_linked : (asked found : Plan) (suite : List ℕ) (s : Settings) (places : List Place) (keeps : Keeps) → found ≡ asked → found ≡ Linked suite s places keeps → Fits asked
+    → (its_places : List Place) → its_places ≡ places → FitsRun suite s its_places
+fits_linked asked found suite s places keeps its is fits its_places the_places =
+    subst (λ (ps : List Place). FitsRun suite s ps) (sym the_places) (subst Fits (sym its ∙ is) fits)
+
+-- what the words of a run on workers came to, from what the run of its suite did
+pub did_linked : (asked found : Plan) (suite : List ℕ) (s : Settings) (places : List Place) (keeps : Keeps) → found ≡ asked → found ≡ Linked suite s places keeps
+    → (code : ℕ) (journal : Option Journal) (links : List EndedLink) (turns : List TurnScene) (tests : List RoundSeen) (old new : Outside)
     → (its_places : List Place) → its_places ≡ places
-    → LinkedRun (record { suite = suite; settings = s; places = its_places }) j code links (seen_by_run old) (seen_by_run new) turns
-    → new.streams.err ≡ old.streams.err → new.streams.files ≡ old.streams.files → new.programs ≡ old.programs → new.crews.runners ≡ old.crews.runners → new.clock ≡ old.clock
-    → Did asked (record { status = code; journal = Some j; links = links; turns = turns; tests = tests }) old new
-did_linked asked found suite s places its is fits text code j links turns tests old new its_places the_places its_run quiet no_file no_program no_runner no_moment =
-    let run = subst (λ (ps : List Place). LinkedRun (record { suite = suite; settings = s; places = ps }) j code links (seen_by_run old) (seen_by_run new) turns) the_places its_run in
-    let ran : RunsOnWorkers (record { suite = suite; settings = s; places = places }) j code links turns old new = record {
-      run = run;
-      complete = completes suite s places (subst Fits is fits) j code links (seen_by_run old) (seen_by_run new) turns run text;
-      quiet = quiet;
-      no_file = no_file;
-      no_program = no_program;
-      no_runner = no_runner;
-      no_moment = no_moment;
-    } in
-    let same : Linked suite s places ≡ asked = sym is ∙ its in
-    subst (λ (p : Plan). Did p (record { status = code; journal = Some j; links = links; turns = turns; tests = tests }) old new) same ran
+    → KeepsAround keeps (λ own after. DidLinked (record { suite = suite; settings = s; places = its_places }) journal own links turns old (record new { streams = after })) journal code new.streams
+    → Did asked (record { status = code; journal = journal; links = links; turns = turns; tests = tests }) old new
+did_linked asked found suite s places keeps its is code journal links turns tests old new its_places the_places did =
+    let run = subst (λ (ps : List Place). KeepsAround keeps (λ own after. DidLinked (record { suite = suite; settings = s; places = ps }) journal own links turns old (record new { streams = after })) journal code new.streams) the_places did in
+    subst (λ (p : Plan). Did p (record { status = code; journal = journal; links = links; turns = turns; tests = tests }) old new) (sym is ∙ its) run

@@ -92,8 +92,8 @@ module _ (status : ℕ) (end : Spring) (old : Workplace) (new : Scene) (s : Serv
 
 -- the link to a place, by how it was served
 pub serves_link : (place : Place) (l : EndedLink) (status : ℕ) (old new : Workplace) → l.worker ≡ 0 → l.killed ≡ false → ServedLink status l.link.spring old (served_scene l.link.sunk l.link.writes new)
-    → new.starter.begun ≡ option_map (with_start place) old.starter.begun → new.starter.faults ≡ old.starter.faults → ServesLink place l status old new
-serves_link place l status old new number killed served started still =
+    → new.starter.begun ≡ option_map (with_start place) old.starter.begun → new.starter.faults ≡ old.starter.faults → new.files.held ≡ old.files.held → ServesLink place l status old new
+serves_link place l status old new number killed served started still kept =
     let seen = served_scene l.link.sunk l.link.writes new in
     record {
       number = number;
@@ -101,6 +101,7 @@ serves_link place l status old new number killed served started still =
       served = served;
       started = started;
       starts_still = still;
+      files_kept = kept;
       calm = link_calm status l.link.spring old seen served;
       wrong = link_wrong status l.link.spring old seen served;
       complete = link_complete status l.link.spring old seen served;

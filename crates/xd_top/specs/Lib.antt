@@ -1,5 +1,9 @@
+pub mod Keeping
+pub mod Kept
 pub mod Named
 pub mod Refusal
+pub mod Replay
+pub mod Said
 pub mod Top
 pub mod Wire
 pub mod Worker

@@ -51,7 +51,7 @@ pub record RunsNamed (asked : LocalWords) (j : Journal) (code : ℕ) (moments : 
   pub named : HasSuite old.streams.files.held asked.suite tests
   pub run : RunsTests tests asked.maxfail j (reach_of old) (reach_of new) moments
   pub status : code ≡ status_of j
-  pub files_still : new.streams.files.faults ≡ old.streams.files.faults
+  pub files_still : new.streams.files ≡ old.streams.files
   pub quiet : new.streams.err ≡ old.streams.err
 
 -- What SUITE -n 0 came to: a run with a journal, or a refusal of the suite file.

@@ -1,9 +1,8 @@
 -- Why nothing is run or printed, and the line that says so. A choice of this project.
-use Rattle.std.specs.Prelude.{ℕ, ◌≡◌, ◌≤◌, ◌⊎◌, Bool, false, List, [], ◌∷◌, ◌++◌, length, Option, Some, IsSomeAnd, codes}
+use Rattle.std.specs.Prelude.{ℕ, ◌≡◌, ◌≤◌, ◌⊎◌, List, [], ◌∷◌, ◌++◌, length, Option, Some, IsSomeAnd, codes}
 use Rattle.xd_edge.specs.Limits.{most_suite_bytes}
 use Rattle.xd_edge.specs.Faults.{Rose, StoodStill}
 use Rattle.xd_edge.specs.Files.{Held, HasFile, HasLarger}
-use Rattle.xd_edge.specs.Printing.{Shows}
 use Rattle.xd_suite.specs.declared.test.Test.{Test}
 use Rattle.xd_suite.specs.declared.fault.SuiteFault.{SuiteFault}
 use Rattle.xd_suite.specs.declared.fault.SuiteWhat.TheVariants.{TooLarge}
@@ -13,6 +12,7 @@ use Rattle.xd_suite.specs.Suite.{IsFaulty, IsSuiteOf}
 use Rattle.xd_top.specs.declared.refusal.Refusal.{Refusal}
 use Rattle.xd_top.specs.declared.refusal.Refusal.TheVariants.{Words, Unread, Suite, FileUnread, FileTooLarge}
 use Rattle.xd_top.specs.Outside.{Streams}
+use Rattle.xd_top.specs.Said.{SaysLine}
 use Rattle.xd_words.specs.Refusal.{words_line}
 
 -- the line of a suite's fault, by the fault in words
@@ -58,15 +58,13 @@ FilesCount Unread before now = Rose before now
 FilesCount FileUnread before now = Rose before now
 FilesCount _ before now = now ≡ before
 
--- A refusal: nothing on standard output, and its line on standard error, or a first part of the line, which was not handed
--- on, where that failed.
+-- A refusal: nothing on standard output, its line on standard error, and each file as it was.
 pub record Refuses (why : Refusal) (status : ℕ) (old new : Streams) : Type 0 where
   pub four : status ≡ 4
   pub files_count : FilesCount why old.files.faults new.files.faults
+  pub files_kept : new.files.held ≡ old.files.held
   pub no_output : new.out ≡ old.out
-  pub shown : Bool
-  pub line : Shows shown (refusal_line why) old.err.sunk new.err.sunk
-  pub fault : shown ≡ false → Rose old.err.faults new.err.faults
+  pub says : SaysLine (refusal_line why) old.err new.err
 
 -- The files tell that the bytes of the suite file of this name list these tests.
 -- Example: the words are `s.toml -n 0`, and the files tell its bytes, which list three tests.

@@ -8,6 +8,7 @@ use Rattle.xd_journal.specs.declared.journal.Journal.{Journal}
 use Rattle.xd_link.specs.declared.place.Place.{Place}
 use Rattle.xd_link.specs.declared.place.Place.TheVariants.{Listen, Own}
 use Rattle.xd_top.specs.declared.refusal.Refusal.TheVariants as refusal
+use Rattle.xd_top.specs.Keeping.{KeepsAround}
 use Rattle.xd_top.specs.Linked.{DidLinked}
 use Rattle.xd_top.specs.Named.{DidLocal, around}
 use Rattle.xd_drive.specs.Moments.{turns_of}
@@ -16,10 +17,11 @@ use Rattle.xd_group.specs.Diaries.{diary_tells}
 use Rattle.xd_dist.specs.Linked.{EndedLink}
 use Rattle.xd_top.specs.Outside.{Outside, workplace}
 use Rattle.xd_top.specs.Refusal.{Refuses}
+use Rattle.xd_top.specs.Replay.{DidReplay}
 use Rattle.xd_top.specs.Wire.{DidWire}
 use Rattle.xd_top.specs.Worker.{DidServe}
 use Rattle.xd_words.specs.declared.plan.Plan.{Plan}
-use Rattle.xd_words.specs.declared.plan.Plan.TheVariants.{Linked, Local, Refused, SocketServer, Wire, Worker}
+use Rattle.xd_words.specs.declared.plan.Plan.TheVariants.{Linked, Local, Refused, Replay, SocketServer, Wire, Worker}
 use Rattle.xd_words.specs.declared.refusal.WordsRefusal.{WordsRefusal}
 
 -- what the call hands back: the exit status, the journal of the run, where one was begun, the links that were started, how the
@@ -43,6 +45,11 @@ pub record Messages (file : List ℕ) (end : End) (old new : Outside) : Type 0 w
   pub no_run : end.journal ≡ None
   pub did : DidWire file end.status old.streams new.streams
 
+-- replay: no run of its own
+pub record Replays (file : List ℕ) (end : End) (old new : Outside) : Type 0 where
+  pub no_run : end.journal ≡ None
+  pub did : DidReplay file end.status old.streams new.streams
+
 -- worker, socketserver: no run, and no report
 pub record Serves (place : Place) (end : End) (old new : Outside) : Type 0 where
   pub no_run : end.journal ≡ None
@@ -57,18 +64,19 @@ pub record RefusesWords (why : WordsRefusal) (end : End) (old new : Outside) : T
 
 -- The call did what the words ask for.
 abbrev pub Did : Plan → End → Outside → Outside → Type 0
-Did (Local suite maxfail) end old new =
-    DidLocal (record { suite = suite; maxfail = maxfail }) (record { journal = end.journal; status = end.status; moments = end.tests }) (around old) (around new)
-Did (Linked suite settings places) end old new =
-    DidLinked (record { suite = suite; settings = settings; places = places }) end.journal end.status end.links end.turns old new
+Did (Local suite maxfail keeps) end old new =
+    KeepsAround keeps (λ own after. DidLocal (record { suite = suite; maxfail = maxfail }) (record { journal = end.journal; status = own; moments = end.tests }) (around old) (around (record new { streams = after }))) end.journal end.status new.streams
+Did (Linked suite settings places keeps) end old new =
+    KeepsAround keeps (λ own after. DidLinked (record { suite = suite; settings = settings; places = places }) end.journal own end.links end.turns old (record new { streams = after })) end.journal end.status new.streams
 Did (Wire file) end old new = Messages file end old new
+Did (Replay file) end old new = Replays file end old new
 Did Worker end old new = Serves Own end old new
 Did (SocketServer host port) end old new = Serves (Listen host port) end old new
 Did (Refused why) end old new = RefusesWords why end old new
 
 -- the plan has links
 abbrev pub has_links : Plan → Bool
-has_links (Linked suite settings places) = true
+has_links (Linked suite settings places keeps) = true
 has_links Worker = true
 has_links (SocketServer host port) = true
 has_links _ = false

@@ -67,6 +67,7 @@ pub record DidWire (path : List ℕ) (status : ℕ) (old new : Streams) : Type 0
   pub refused : status ≡ 4 → RefusesFile path status old new
   pub still : status ≢ 3 → new.out.faults ≡ old.out.faults
   pub files_still : status ≢ 4 → new.files.faults ≡ old.files.faults
+  pub files_kept : new.files.held ≡ old.files.held
   pub quiet : status ≢ 4 → new.err ≡ old.err
   pub readable : (bytes : List ℕ) → TellsMessages old.files.held path bytes
       → StoodStill old.files.faults new.files.faults → StoodStill old.out.faults new.out.faults

@@ -38,13 +38,14 @@ pub record ServedLink (status : ℕ) (end : Spring) (old : Workplace) (new : Sce
 
 -- The link to this place was started and served to its end. The status is 0 only where no count of the starter, the
 -- link and the crews rose, and another one only where something is wrong with the link; where the link tells its bytes,
--- nothing is wrong with all of them and no count rises, it is 0.
+-- nothing is wrong with all of them and no count rises, it is 0. No file is written.
 pub record ServesLink (place : Place) (l : EndedLink) (status : ℕ) (old new : Workplace) : Type 0 where
   pub number : l.worker ≡ 0
   pub not_killed : l.killed ≡ false
   pub served : ServedLink status l.link.spring old (served_scene l.link.sunk l.link.writes new)
   pub started : new.starter.begun ≡ option_map (with_start place) old.starter.begun
   pub starts_still : new.starter.faults ≡ old.starter.faults
+  pub files_kept : new.files.held ≡ old.files.held
   pub calm : status ≡ 0 → IsCalm 0 l.link.spring.faults (served_scene (unwritten l.link.sunk) 0 old) (served_scene l.link.sunk l.link.writes new)
   pub wrong : status ≢ 0 → IfSome l.link.spring.supply (λ s. GoesWrong old.files.held (all_bytes s) 0 l.link.spring.faults (served_scene (unwritten l.link.sunk) 0 old) (served_scene l.link.sunk l.link.writes new))
   pub complete : IfSome l.link.spring.supply (λ s. AreGood old.files.held (all_bytes s) (served_scene (unwritten l.link.sunk) 0 old) (served_scene l.link.sunk l.link.writes new)

@@ -1,9 +1,11 @@
 // `SUITE -n 0`: the suite file is read, and its tests are run in the program itself.
-ghost use Rattle.std.specs.Prelude.{◌≡◌, IfOk, IfNone, MatchResult};
+ghost use Rattle.std.specs.Prelude.{◌≡◌, IfOk, OnOk, IfNone, MatchResult};
 ghost use Rattle.xd_edge.specs.Faults.{Rose};
+ghost use Rattle.xd_top.specs.Keeping.{KeepsAround};
 ghost use Rattle.xd_top.specs.Named.{DidLocal, tests_seen};
 ghost use Rattle.xd_top.specs.Refusal.{FilesCount, HasSuite, WhySuiteRefused};
 
+use crate::keeping::keep;
 use crate::refusal::{Refusal, refuse};
 use std::alloc::Global;
 use std::sync::Wait;
@@ -12,6 +14,7 @@ use xd_journal::Journal;
 use xd_local::{LocalSuite, run_suite};
 use xd_suite::{Suite, SuiteFault, SuiteRefusal, SuiteWhat};
 use xd_trace::Moments;
+use xd_words::Keeps;
 
 const TOO_LARGE: SuiteFault = SuiteFault {
     test: None,
@@ -39,8 +42,59 @@ pub struct LocalEnd<K: Children, O> {
     pub moments: Option<Moments<K, O>>,
 }
 
-/// Runs the tests of the suite file, or says why it is refused.
-pub fn run_named<R: Wait, F: Files, K: Children, T: Clock, O: Sink, E: Sink>(
+/// Runs the tests of the suite file, or says why it is refused; and keeps what is to be kept of the run.
+pub fn run_and_keep<R: Wait, F: Files, K: Children, T: Clock, O: Sink, E: Sink>(
+    rt: &R,
+    file: LocalFile<K>,
+    keeps: &Keeps,
+    files: &mut F,
+    clock: &mut T,
+    out: &mut O,
+    err: &mut E,
+) -> Result<LocalEnd<K, O>, OutOfMemory>
+    ensures did { IfOk result (λ e. KeepsAround keeps.now
+        (λ own after. DidLocal (record { suite = file.suite; maxfail = file.maxfail })
+        (record {
+          journal = e.journal;
+          status = own;
+          moments = tests_seen K.runs O.sunk e.moments;
+        })
+        (record {
+          streams = record {
+            files = record { held = F.held files.old; faults = F.faults files.old };
+            out = record { sunk = O.sunk out.old; faults = O.faults out.old };
+            err = record { sunk = E.sunk err.old; faults = E.faults err.old };
+          };
+          programs = record { runs = K.runs file.children; faults = K.faults file.children };
+          clock = record { moment = T.moment clock.old; coming = T.coming clock.old };
+        })
+        (record {
+          streams = after;
+          programs = record { runs = K.runs e.children; faults = K.faults e.children };
+          clock = record { moment = T.moment clock.new; coming = T.coming clock.new };
+        }))
+        e.journal e.status
+        (record {
+          files = record { held = F.held files.new; faults = F.faults files.new };
+          out = record { sunk = O.sunk out.new; faults = O.faults out.new };
+          err = record { sunk = E.sunk err.new; faults = E.faults err.new };
+        })) }
+    ensures no_child { IfOk result (λ e.
+        IfNone e.journal ((e.children ≡ file.children) × (clock.new ≡ clock.old))) }
+{
+    let alloc = file.alloc;
+    let end = run_named(rt, file, files, clock, out, err)?;
+    let status = keep(alloc, keeps, &end.journal, end.status, files, err)?;
+    Ok(LocalEnd {
+        status,
+        journal: end.journal,
+        children: end.children,
+        moments: end.moments,
+    })
+}
+
+// Runs the tests of the suite file, or says why it is refused.
+fn run_named<R: Wait, F: Files, K: Children, T: Clock, O: Sink, E: Sink>(
     rt: &R,
     file: LocalFile<K>,
     files: &mut F,
@@ -116,6 +170,7 @@ fn read_suite<F: Files>(
     ensures count { IfOk result (λ r. MatchResult r
         (λ _. F.faults files.new ≡ F.faults files.old)
         (λ why. FilesCount why (F.faults files.old) (F.faults files.new))) }
+    ensures kept { OnOk result (F.held files.new ≡ F.held files.old) }
 {
     let bytes = match files.read_file(alloc, suite, MAX_SUITE_BYTES) {
         Ok(bytes) => bytes,

@@ -1,9 +1,8 @@
 // Why nothing is run.
-ghost use Rattle.std.specs.Prelude.{◌≡◌, Bool, false, IfOk, OnOk, string_bytes};
-ghost use Rattle.xd_edge.specs.Faults.{Rose};
-ghost use Rattle.xd_edge.specs.Printing.{Shows};
+ghost use Rattle.std.specs.Prelude.{◌≡◌, IfOk, OnOk, string_bytes};
 ghost use Rattle.xd_suite.specs.FaultText.{fault_text};
 ghost use Rattle.xd_top.specs.Refusal.{refusal_line, suite_line};
+ghost use Rattle.xd_top.specs.Said.{SaysLine};
 
 use std::alloc::Global;
 use xd_edge::{OutOfMemory, Sink, print};
@@ -19,9 +18,9 @@ pub enum Refusal {
     Unread,
     /// The suite file is refused, for its first fault.
     Suite(SuiteFault),
-    /// The file of messages is missing or cannot be read.
+    /// The file of `wire` or of `replay` is missing or cannot be read.
     FileUnread,
-    /// The file of messages has over 64 MiB.
+    /// The file has more bytes than are read: 64 MiB of messages, or 256 MiB of a journal.
     FileTooLarge,
 }
 
@@ -56,11 +55,20 @@ fn suite_line(alloc: Global, fault: SuiteFault) -> Result<String, OutOfMemory>
 /// Prints the line, or nothing of it is handed on where standard error failed. Gives the exit status of a refusal.
 pub fn refuse<E: Sink>(alloc: Global, err: &mut E, why: Refusal) -> Result<u8, OutOfMemory>
     ensures four { IfOk result (λ status. status ≡ 4) }
-    ensures line { OnOk result ((shown : Bool)
-        × Shows shown (refusal_line why) (E.sunk err.old) (E.sunk err.new)
-        × (shown ≡ false → Rose (E.faults err.old) (E.faults err.new))) }
+    ensures line { OnOk result (SaysLine (refusal_line why)
+        (record { sunk = E.sunk err.old; faults = E.faults err.old })
+        (record { sunk = E.sunk err.new; faults = E.faults err.new })) }
 {
     let line = refusal_line(alloc, why)?;
-    let _shown = print(err, line.as_bytes()).is_ok();
+    say(err, line.as_str());
     Ok(4)
+}
+
+/// Prints a line on standard error, or nothing of it is handed on where that failed.
+pub fn say<E: Sink>(err: &mut E, line: &str)
+    ensures { SaysLine line.now
+        (record { sunk = E.sunk err.old; faults = E.faults err.old })
+        (record { sunk = E.sunk err.new; faults = E.faults err.new }) }
+{
+    let _shown = print(err, line.as_bytes()).is_ok();
 }

@@ -1,20 +1,21 @@
 // The top call.
-ghost use Rattle.std.specs.Prelude.{◌≡◌, [], true, false, IfNone, IfOk};
-ghost use Rattle.std.specs.Str.{all_scalars};
+ghost use Rattle.std.specs.Prelude.{◌≡◌, [], false, IfNone, IfOk};
 ghost use Rattle.xd_dist.specs.Linked.{ended_links};
 ghost use Rattle.xd_edge.specs.Clock.{ticking};
 ghost use Rattle.xd_top.specs.Named.{tests_seen};
 ghost use Rattle.xd_top.specs.Top.{Did, has_links, turns_seen};
-ghost use Rattle.xd_words.specs.Words.{plan_of};
+ghost use Rattle.xd_words.specs.Words.{Fits, plan_of};
 
-use crate::named::{LocalEnd, LocalFile, run_named};
+use crate::named::{LocalEnd, LocalFile, run_and_keep};
 use crate::refusal::{Refusal, refuse};
+use crate::replay::replay_named;
 use crate::wire::print_named;
 use crate::worker::serve_at;
+use crate::workers::run_on_workers;
 use std::alloc::Global;
 use std::sync::Wait;
 use xd_crew::Crew;
-use xd_dist::{LinkedSuite, run_linked};
+use xd_dist::LinkedSuite;
 use xd_edge::{Children, Clock, Files, OutOfMemory, Sink, Text};
 use xd_group::{Diary, LinkEnd};
 use xd_journal::Journal;
@@ -59,6 +60,12 @@ pub struct RunEnd<St: Starter, C: Crew<Reader<St::Src>>, K: Children, O> {
 ///
 /// `wire FILE` prints a file of messages. Its status is 0 where the file has no fault, 1 where it has one, 3 where the
 /// text could not be written.
+///
+/// With `--journal FILE` the journal of a run is written to that file after the report. Where it cannot be written the
+/// status is 3.
+///
+/// `replay FILE` prints the report of such a file again. Its status is 0 where all was printed, 1 where the file has no
+/// journal that a run can have left, 3 where the output failed.
 ///
 /// The status is 4 where the words or the file are refused.
 pub fn xdrun<
@@ -115,6 +122,7 @@ pub fn xdrun<
           crews = record { readers = C.faults e.crew; runners = D.faults runner.new };
           clock = ticking (T.moment clock.new) (T.coming clock.new);
         })) }
+    ensures fits { IfOk result (λ _. Fits (plan_of words.now)) }
     ensures no_link { IfOk result (λ e. has_links (plan_of words.now) ≡ false →
         (e.links.items ≡ []) × (e.starter ≡ starter) × (e.crew ≡ crew)
         × (runner.new ≡ runner.old)) }
@@ -122,40 +130,41 @@ pub fn xdrun<
         IfNone e.journal ((e.children ≡ children) × (clock.new ≡ clock.old))) }
 {
     let end = match plan_of(alloc, words)? {
-        Plan::Local { suite, maxfail } => {
+        Plan::Local {
+            suite,
+            maxfail,
+            keeps,
+        } => {
             let file = LocalFile {
                 alloc,
                 suite,
                 maxfail,
                 children,
             };
-            run_named(rt, file, files, clock, out, err)?
+            run_and_keep(rt, file, &keeps, files, clock, out, err)?
         }
         Plan::Linked {
             suite,
             settings,
             places,
+            keeps,
         } => {
-            text_law(&suite);
             let suite = LinkedSuite {
                 path: suite,
                 settings,
                 places: places.items,
             };
-            let end = run_linked(rt, alloc, suite, starter, crew, out)?;
-            return Ok(RunEnd {
-                status: end.status,
-                journal: Some(end.journal),
-                links: end.links,
-                starter: end.starter,
-                crew: end.crew,
-                children,
-                turns: Some(end.moments),
-                tests: None,
-            });
+            let end = run_on_workers(
+                rt, alloc, suite, &keeps, files, starter, crew, children, out, err,
+            )?;
+            return Ok(end);
         }
         Plan::Wire { file } => {
             let status = print_named(alloc, &file, files, out, err)?;
+            without_run(status, children)
+        }
+        Plan::Replay { file } => {
+            let status = replay_named(alloc, &file, files, out, err)?;
             without_run(status, children)
         }
         Plan::Worker => {
@@ -187,13 +196,6 @@ pub fn xdrun<
         turns: None,
         tests: end.moments,
     })
-}
-
-// Each character of a text is a Unicode scalar value.
-fn text_law(text: &Text)
-    ensures { all_scalars text.now ≡ true }
-{
-    let _ = text.as_str();
 }
 
 fn without_run<K: Children, O>(status: u8, children: K) -> LocalEnd<K, O>

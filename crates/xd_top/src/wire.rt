@@ -1,5 +1,5 @@
 // `wire FILE`: a file of messages as text.
-ghost use Rattle.std.specs.Prelude.{◌≡◌, ◌≢◌, IfOk, MatchResult};
+ghost use Rattle.std.specs.Prelude.{◌≡◌, ◌≢◌, IfOk, OnOk, MatchResult};
 ghost use Rattle.xd_edge.specs.Faults.{Rose};
 ghost use Rattle.xd_wire.specs.declared.print.WireEnd.TheVariants.{OutFailed};
 ghost use Rattle.xd_top.specs.Refusal.{FilesCount};
@@ -60,6 +60,7 @@ fn print_file<F: Files, O: Sink>(
     ensures files_count { IfOk result (λ r. MatchResult r
         (λ _. F.faults files.new ≡ F.faults files.old)
         (λ why. FilesCount why (F.faults files.old) (F.faults files.new))) }
+    ensures files_kept { OnOk result (F.held files.new ≡ F.held files.old) }
 {
     let bytes = match files.read_file(alloc, path, MAX_FILE_BYTES) {
         Ok(bytes) => bytes,

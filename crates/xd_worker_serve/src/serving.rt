@@ -114,7 +114,7 @@ pub fn serve<
     runner: &mut D,
     clock: &mut T,
 ) -> Result<ServeEnd<S, N, K>, OutOfMemory>
-    ensures { IfOk result (λ e. ServedToEnd e.status (F.held files.old)
+    ensures served { IfOk result (λ e. ServedToEnd e.status (F.held files.old)
         (spring (S.supply link.source) (S.is_ended link.source) (S.faults link.source))
         (spring (S.supply e.source) (S.is_ended e.source) (S.faults e.source))
         (scene (N.sunk link.sink) (N.faults link.sink) (K.runs children) (K.faults children)
@@ -123,6 +123,7 @@ pub fn serve<
         (scene (N.sunk e.sink) (N.faults e.sink) (K.runs e.children) (K.faults e.children)
         (F.faults files.new) (C.faults crew.new) (D.faults runner.new)
         (ticking (T.moment clock.new) (T.coming clock.new)))) }
+    ensures kept { F.held files.new ≡ F.held files.old }
 {
     let Started {
         link: _,

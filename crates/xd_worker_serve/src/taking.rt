@@ -33,6 +33,7 @@ impl<N: Sink> Server<N> {
             IfOk result (λ halt. Goes (Some halt) a
             (beside (F.faults files.new) (ticking (T.moment clock.new) (T.coming clock.new)))
             (seen N.sunk N.faults self.new)) }
+        ensures kept { F.held files.new ≡ F.held files.old }
     {
         for _ in rt.forever() {
             let (inbox, news) = self.desk.wait(rt);

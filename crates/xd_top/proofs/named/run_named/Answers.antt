@@ -6,8 +6,7 @@ pub returns-clause-did : goal.returns-clause-did
 returns-clause-did g c = refuses_suite _ _ _ _ c.in-Err.why (rw (c.in-Err.is) at c.in_ok-tests.ensures.read) (record {
   four = c.in_ok-status-in-Err.ensures.four;
   files_count = rw (c.in-Err.is) at c.in_ok-tests.ensures.count;
+  files_kept = c.in_ok-tests.ensures.kept;
   no_output = refl;
-  shown = c.in_ok-status-in-Err.ensures.line.0;
-  line = c.in_ok-status-in-Err.ensures.line.1;
-  fault = c.in_ok-status-in-Err.ensures.line.2;
+  says = c.in_ok-status-in-Err.ensures.line;
 })

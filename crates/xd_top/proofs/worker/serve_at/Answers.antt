@@ -26,6 +26,6 @@ returns-clause-did g c =
     } in
     let link = served_link c.in_ok-end.end.status start end (g.St.Snk.Sink.sunk c.in-Ok.link.sink) (g.St.Snk.Sink.faults c.in-Ok.link.sink) old
     (served_scene (g.St.Snk.Sink.sunk c.in_ok-end.end.sink) (g.St.Snk.Sink.faults c.in_ok-end.end.sink) new)
-    c.in-Ok.ensures.nothing_given c.in-Ok.ensures.not_ended c.in-Ok.ensures.no_reads c.in-Ok.ensures.nothing_taken c.in-Ok.ensures.no_writes c.in_ok-end.ensures.served in
+    c.in-Ok.ensures.nothing_given c.in-Ok.ensures.not_ended c.in-Ok.ensures.no_reads c.in-Ok.ensures.nothing_taken c.in-Ok.ensures.no_writes c.in_ok-end.ensures.served.served in
     links_one _ _ _ _ _ _ _ _ (c.in_ok-reserve.ensures.items ∙ c.new-links.ensures.items) c.push_reserved.ensures.items
-    (serves_link _ _ _ _ _ refl refl link c.in-Ok.ensures.started (c.in-Ok.ensures.counted.still refl))
+    (serves_link _ _ _ _ _ refl refl link c.in-Ok.ensures.started (c.in-Ok.ensures.counted.still refl) c.serve.ensures.kept)

@@ -18,8 +18,8 @@ use Rattle.xd_worker_serve.proofs.serving.serve.Goals as goal
 
 -- ---- nothing was served
 
-pub returns-then-server : goal.returns-then-server
-returns-then-server g c =
+pub returns-then-server-clause-served : goal.returns-then-server-clause-served
+returns-then-server-clause-served g c =
     let clock = ticking (g.T.Clock.moment c.args.clock.now) (g.T.Clock.coming c.args.clock.now) in
     let held = g.F.Files.held c.args.files.now in
     let s0 = spring (g.S.Source.supply c.args.link.source) (g.S.Source.is_ended c.args.link.source) (g.S.Source.faults c.args.link.source) in
@@ -46,8 +46,8 @@ no_runner g c =
     (λ z. inr (c.in-Err.ensures.counted.rose refl)) c.unserved-in-Err.result.status _ c.unserved-in-Err.ensures.status
     (ap (λ (x : g.row.S.Denot). spring (g.S.Source.supply x) (g.S.Source.is_ended x) (g.S.Source.faults x)) c.unserved-in-Err.ensures.source)
 
-pub returns-in-Err : goal.returns-in-Err
-returns-in-Err g c = to_end _ _ _ _ _ _ (no_runner g (goal.at.returns-in-Err g c).After-drop-server-in-Err-5)
+pub returns-in-Err-clause-served : goal.returns-in-Err-clause-served
+returns-in-Err-clause-served g c = to_end _ _ _ _ _ _ (no_runner g (goal.at.returns-in-Err-clause-served g c).After-drop-server-in-Err-5)
 
 -- the reader's crew refused
 no_reader : (g : Over) (c : After-drop-server-in-Err-start-2 g) → Served c.unserved-in-Err-start.result.status (g.F.Files.held c.args.files.now)
@@ -65,8 +65,8 @@ no_reader g c =
     (λ z. inl (c.in-Err-start.ensures.counted.rose refl)) c.unserved-in-Err-start.result.status _ c.unserved-in-Err-start.ensures.status
     (ap (λ (x : g.row.S.Denot). spring (g.S.Source.supply x) (g.S.Source.is_ended x) (g.S.Source.faults x)) e)
 
-pub returns-in-Err-start : goal.returns-in-Err-start
-returns-in-Err-start g c = to_end _ _ _ _ _ _ (no_reader g (goal.at.returns-in-Err-start g c).After-drop-server-in-Err-start-2)
+pub returns-in-Err-start-clause-served : goal.returns-in-Err-start-clause-served
+returns-in-Err-start-clause-served g c = to_end _ _ _ _ _ _ (no_reader g (goal.at.returns-in-Err-start-clause-served g c).After-drop-server-in-Err-start-2)
 
 -- ---- the link was served
 
@@ -123,9 +123,9 @@ finish-requires g c =
     let e = (goal.at.finish-requires g c).Else-server-2 in
     (stays g e, following g e, before g e, last g e, goes g e, refl, joined g e)
 
-pub returns : goal.returns
-returns g c =
-    let e = (goal.at.returns g c).Else-server-2 in
+pub returns-clause-served : goal.returns-clause-served
+returns-clause-served g c =
+    let e = (goal.at.returns-clause-served g c).Else-server-2 in
     let clock = ticking (g.T.Clock.moment c.args.clock.now) (g.T.Clock.coming c.args.clock.now) in
     let later = ticking (g.T.Clock.moment c.listen-heard.new.clock) (g.T.Clock.coming c.listen-heard.new.clock) in
     let held = g.F.Files.held c.args.files.now in
