@@ -17,9 +17,11 @@ loop-entry-preserved c =
     let i = c.loop-entry.entry-index in
     let e : Entry = c.entry-item.result in
     let t : State = after_entries s (take i es) in
+    let within = rw (c.deref-entry-items.ensures.value) at c.loop-entry-test.true in
+    let here = rw (c.deref-entry-items.ensures.value) at c.entry-item.is in
     record {
-      ids = c.in_ok-add_id.ensures ∙ ap (λ (l : List (List ℕ)). l ++ with_id c.in_ok-failed_id-id.result []) c.loop-entry.invariant.ids
-          ∙ ap (λ (o : Option (List ℕ)). failed_from s (take i es) ++ with_id o []) (c.in_ok-failed_id-id.ensures (reached t e) (reach c.loop-entry.reporter t e c.loop-entry.invariant.follows))
-          ∙ sym (failed-step s es i e (omega arith) c.entry-item.is);
-      follows = subst (Follows c.note.new.self) (sym (after_effect-step s es i e (omega arith) c.entry-item.is)) (c.in_ok-note.ensures t c.loop-entry.invariant.follows);
+      ids = c.in_ok-add_id.ensures ∙ ap (λ (l : List (List ℕ)). l ++ with_id c.in_ok-id.id []) c.loop-entry.invariant.ids
+          ∙ ap (λ (o : Option (List ℕ)). failed_from s (take i es) ++ with_id o []) (c.in_ok-id.ensures (reached t e) (reach c.loop-entry.reporter t e c.loop-entry.invariant.follows))
+          ∙ sym (failed-step s es i e within here);
+      follows = subst (Follows c.note.new.self) (sym (after_effect-step s es i e within here)) (c.in_ok-note.ensures t c.loop-entry.invariant.follows);
     }
