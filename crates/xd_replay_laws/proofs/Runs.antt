@@ -43,11 +43,11 @@ ended-left settings j can few is (failed, given, e) =
     (left-by-run j.settings (taken_of j.settings given) failed (begun-proper j.settings (subst CanBegin (sym here) can)) (ap (λ (s : Settings). nat_le s.retries most_retries) here ∙ few) e.may_end)
 
 drove-ended : (settings : Settings) (j : Journal) (old new : HubScene) (moments : List TurnScene) → Drove settings j old new moments → (b : Bool) → is_out_fault (stop_of j) ≡ b → EndedBySome j
-drove-ended settings j old new moments d true e = (true, (d.broken e).1.0, (d.broken e).1.1.ended)
+drove-ended settings j old new moments d true e = (true, (d.broken e).1, (d.broken e).2.ended)
 drove-ended settings j old new moments d false e = (false, (d.whole e).0, (d.whole e).1.ended)
 
 drives-ended : (j : Journal) (calls : List Entry) (given : List News) (old new : Option Sunk) (moments : List TurnScene) → DrivesTo j calls given old new moments → (b : Bool) → is_out_fault (stop_of j) ≡ b → EndedBySome j
-drives-ended j calls given old new moments d true e = (true, (d.broken e).1.0, (d.broken e).1.1.ended)
+drives-ended j calls given old new moments d true e = (true, (d.broken e).1, (d.broken e).2.ended)
 drives-ended j calls given old new moments d false e = (false, (d.whole e).0, (d.whole e).1.ended)
 
 -- a session that was driven to its end leaves a checked journal
