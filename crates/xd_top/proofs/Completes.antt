@@ -35,10 +35,10 @@ completes suite s places fits j code links old new moments run text still gives 
     (record { scalars = text; short = fits.short; on_workers = fits.shared }) run still gives
 
 -- where the words of a run on workers fit, so do what it is handed
-pub fits_linked : (asked found : Plan) (suite : List ℕ) (s : Settings) (places : List Place) (keeps : Keeps) → found ≡ asked → found ≡ Linked suite s places keeps → Fits asked
+pub fits_linked : (found : Plan) (suite : List ℕ) (s : Settings) (places : List Place) (keeps : Keeps) → found ≡ Linked suite s places keeps → Fits found
     → (its_places : List Place) → its_places ≡ places → FitsRun suite s its_places
-fits_linked asked found suite s places keeps its is fits its_places the_places =
-    subst (λ (ps : List Place). FitsRun suite s ps) (sym the_places) (subst Fits (sym its ∙ is) fits)
+fits_linked found suite s places keeps is fits its_places the_places =
+    subst (λ (ps : List Place). FitsRun suite s ps) (sym the_places) (subst Fits is fits)
 
 -- what the words of a run on workers came to, from what the run of its suite did
 pub did_linked : (asked found : Plan) (suite : List ℕ) (s : Settings) (places : List Place) (keeps : Keeps) → found ≡ asked → found ≡ Linked suite s places keeps

@@ -1,7 +1,7 @@
 pub mod Begins
 pub mod Completes
-pub mod Keeping
 pub mod Kept
+pub mod KeptRuns
 pub mod Refused
 pub mod Replaying
-pub mod Workers
+pub mod Serves

@@ -1,4 +1,4 @@
-use Rattle.xd_top.proofs.Keeping.{checked-run, replayed}
+use Rattle.xd_top.proofs.KeptRuns.{checked-run, replayed}
 use Rattle.xd_top.proofs.laws.replay_law.Goals as goal
 
 pub returns-clause-checked : goal.returns-clause-checked

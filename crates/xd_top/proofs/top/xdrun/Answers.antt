@@ -5,13 +5,13 @@ use Rattle.xd_top.specs.Top.{turns_seen}
 use Rattle.xd_top.proofs.Completes.{did_linked, fits_linked}
 use Rattle.xd_top.proofs.top.xdrun.Goals as goal
 
-pub run_on_workers-in-Linked-requires : goal.run_on_workers-in-Linked-requires
-run_on_workers-in-Linked-requires c d = fits_linked _ _ _ _ _ _ d.in_ok-plan.ensures.plan d.in-Linked.is d.in_ok-plan.ensures.fits _ d.places.view_is
+pub run_on_workers-requires : goal.run_on_workers-requires
+run_on_workers-requires c d = fits_linked _ _ _ _ _ d.in-Linked.is d.in_ok-suite.ensures.fits _ d.places.view_is
 
 pub returns-in-Linked-clause-did : goal.returns-in-Linked-clause-did
 returns-in-Linked-clause-did c d =
     let end = d.in_ok-end-in-Linked.end in
-    did_linked _ _ _ _ _ _ d.in_ok-plan.ensures.plan d.in-Linked.is end.status end.journal
+    did_linked _ _ _ _ _ _ d.in_ok-suite.ensures.plan d.in-Linked.is end.status end.journal
     (ended_links c.St.Src.Source.supply c.St.Src.Source.is_ended c.St.Src.Source.faults c.St.Snk.Sink.sunk c.St.Snk.Sink.faults end.links.items)
     (turns_seen c.O.Sink.sunk end.turns) (tests_seen c.K.Children.runs c.O.Sink.sunk end.tests)
     (record {

@@ -3,7 +3,7 @@ use Rattle.xd_link.specs.Spring.{spring}
 use Rattle.xd_edge.specs.Clock.{ticking}
 use Rattle.xd_top.specs.Outside.{Workplace}
 use Rattle.xd_top.specs.Worker.{served_scene}
-use Rattle.xd_top.proofs.Workers.{links_one, served_link, serves_link}
+use Rattle.xd_top.proofs.Serves.{links_one, served_link, serves_link}
 use Rattle.xd_top.proofs.worker.serve_at.Goals as goal
 
 pub returns-clause-did : goal.returns-clause-did
