@@ -36,18 +36,17 @@ fn ten_ids(alloc: Global) -> Result<Texts, Fail>
 
 // What an entry of the journal orders this worker to do, if it does.
 fn order_to(alloc: Global, number: u32, entry: &Entry) -> Result<Option<Order>, OutOfMemory> {
-    match entry {
-        Entry::Run { worker, indices } if *worker == number => Ok(Some(Order::RunTests(copy_indices(
-            alloc,
-            &indices.items,
-        )?))),
-        Entry::Steal { worker, indices } if *worker == number => Ok(Some(Order::Steal(copy_indices(
-            alloc,
-            &indices.items,
-        )?))),
-        Entry::Shutdown { worker } if *worker == number => Ok(Some(Order::Shutdown)),
-        _ => Ok(None),
-    }
+    let order = match entry {
+        Entry::Run { worker, indices } if *worker == number => {
+            Order::RunTests(copy_indices(alloc, &indices.items)?)
+        }
+        Entry::Steal { worker, indices } if *worker == number => {
+            Order::Steal(copy_indices(alloc, &indices.items)?)
+        }
+        Entry::Shutdown { worker } if *worker == number => Order::Shutdown,
+        _ => return Ok(None),
+    };
+    Ok(Some(order))
 }
 
 // What the controller hears of what a worker says.
