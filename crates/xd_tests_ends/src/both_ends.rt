@@ -1,5 +1,5 @@
-// A run whose two ends are both there: a session, and two workers. What one says is on the way until a test has the other
-// take it.
+// A run whose two ends are both there: a session, and two workers. What one says is on the way until a test has the
+// other take it.
 ghost use Rattle.std.specs.Prelude.{◌≡◌, true, OnOk, IfOk};
 
 use crate::worker::Worker;
@@ -106,34 +106,53 @@ fn write_running(out: &mut String, worker: &Worker) -> Result<(), AllocError> {
     Ok(())
 }
 
-// What was told and ordered in these moves, but for starts and collections, and which tests run then.
-fn after(alloc: Global, moves: &str) -> Result<String, Fail> {
-    let mut session = begin(alloc)?;
-    let mut first = Worker::new(alloc, 0)?;
-    let mut second = Worker::new(alloc, 1)?;
-    play(alloc, &mut session, &mut first, &mut second, moves)?;
+// What was told and ordered in these moves, but for starts and collections, which tests run then, and whether the run
+// is over.
+fn told(
+    alloc: Global,
+    session: &mut Session<Steal>,
+    first: &mut Worker,
+    second: &mut Worker,
+    moves: &str,
+) -> Result<String, Fail>
+    requires { session.old.whole ≡ true }
+{
+    play(alloc, session, first, second, moves)?;
     let mut out = String::new(alloc);
     for entry in &session.journal().entries {
         write_entry(&mut out, entry)?;
     }
-    write_running(&mut out, &first)?;
-    write_running(&mut out, &second)?;
+    write_running(&mut out, first)?;
+    write_running(&mut out, second)?;
+    if session.over() {
+        out.push_str("over")?;
+    }
     Ok(out)
 }
 
-// Both collect, and each gets half of the tests. The second one ends 5 and 6, which is on its way. The first one ends all
-// but one of its tests, which the controller hears: it asks the second one for 8 and 9, while that runs 7 with 8 next.
+// The same of a run that begins. Nothing is tried here while the session is there: each place that drops one is dear to
+// prove.
+fn after(alloc: Global, moves: &str) -> Result<String, Fail> {
+    let mut first = Worker::new(alloc, 0)?;
+    let mut second = Worker::new(alloc, 1)?;
+    let mut session = begin(alloc)?;
+    told(alloc, &mut session, &mut first, &mut second, moves)
+}
+
+// Both collect, and each gets half of the tests. The second one ends 5 and 6, which is on its way. The first one ends
+// all but one of its tests, which the controller hears: it asks the second one for 8 and 9, while that runs 7 with 8
+// next.
 const ASKED: (&str, &str) = (
     "nNoOEEeeeen",
     "run0 0 1 2 3 4; run1 5 6 7 8 9; done0 0; done0 1; done0 2; done0 3; steal1 8 9; 7 runs; ",
 );
 
-// That comes to the second one, which the controller then hears. It gave nothing back, as 8 is next; 9 alone is asked for,
-// is queued, and comes back. The run goes to its end: no worker goes down, and each test is done once.
+// That comes to the second one, which the controller then hears. It gave nothing back, as 8 is next; 9 alone is asked
+// for, is queued, and comes back. The run goes to its end: no worker goes down, and each test is done once.
 const ENDED: (&str, &str) = (
     "nNoOEEeeeenONONoenENoOeEnN",
     "run0 0 1 2 3 4; run1 5 6 7 8 9; done0 0; done0 1; done0 2; done0 3; steal1 8 9; done1 5; done1 6; back1; \
-    steal1 9; back1 9; run0 9; done0 4; shutdown0; done1 7; shutdown1; done0 9; finished0; done1 8; finished1; ",
+    steal1 9; back1 9; run0 9; done0 4; shutdown0; done1 7; shutdown1; done0 9; finished0; done1 8; finished1; over",
 );
 
 #[test]

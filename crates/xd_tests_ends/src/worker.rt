@@ -1,5 +1,5 @@
-// A worker: the rules of what it says and starts, and what of it is on the way. Its news and orders are values, so that no
-// message is made of them.
+// A worker: the function `run_tests` by itself, with what is on the way to it and from it. Orders and news are values
+// here, of which no messages are made.
 ghost use Rattle.std.specs.Prelude.{◌<◌, ◌^◌, IfOk, length};
 ghost use Rattle.xd_worker_tests.specs.Turns.{CanTake};
 
@@ -75,6 +75,7 @@ impl Worker {
         Ok(worker)
     }
 
+    // What the function asks for is on the way. The worker's table of channels has room.
     fn step(&mut self, input: Input) -> Result<(), OutOfMemory>
         requires { CanTake input }
     {
