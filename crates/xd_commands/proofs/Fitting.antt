@@ -1,5 +1,5 @@
 -- A command has a payload, and so has the call that runs tests.
-use Rattle.std.proofs.Common.{not, ◌&&◌, length-append, Err, ◌≡◌, ℕ, suc, ◌+◌, ◌*◌, ◌<◌, ◌≤◌, max, nat_lt, pos, Bool, true, false, List, [], ◌∷◌, ◌++◌, length, map, Ok, refl, ap, sym, subst, arith}
+use Rattle.std.proofs.Common.{not, ◌&&◌, length-append, Err, ◌≡◌, ℕ, suc, ◌+◌, ◌*◌, ◌<◌, ◌≤◌, max, nat_lt, pos, Bool, true, false, List, [], ◌∷◌, ◌++◌, length, map, None, Ok, refl, ap, sym, subst, arith}
 use Rattle.std.specs.Prelude.{codes, if◌then◌else◌}
 use Rattle.std.specs.Int.{w32, to_be_bytes}
 use Rattle.std.specs.Str.{encode_utf8_all}
@@ -172,11 +172,11 @@ call_sizes s n k v l w t =
       length-append w (80 ∷ []),
     )
 
-call_length : (suite mode : List ℕ) → length (canonical (run_tests_call suite mode)) ≡ length (encode_utf8_all suite) + length (encode_utf8_all mode) + 58
+call_length : (suite mode : List ℕ) → length (canonical (run_tests_call suite mode None)) ≡ length (encode_utf8_all suite) + length (encode_utf8_all mode) + 58
 call_length suite mode =
     let all = call_sizes (form (text [])) (form (text (codes "run_tests"))) (form (text (codes "suite"))) (form (text suite)) (form (text (codes "dist"))) (form (text mode)) (64 ∷ to_be_bytes w32 4) in
     omega (arith, all, text_length [], text_length (codes "run_tests"), text_length (codes "suite"), text_length suite, text_length (codes "dist"), text_length mode, suite_length, dist_length, function_length)
 
-pub call_dumped : (suite mode : List ℕ) → length (encode_utf8_all suite) ≤ 65536 → length (encode_utf8_all mode) ≤ 65536 → dumped (run_tests_call suite mode) ≡ Ok (canonical (run_tests_call suite mode))
+pub call_dumped : (suite mode : List ℕ) → length (encode_utf8_all suite) ≤ 65536 → length (encode_utf8_all mode) ≤ 65536 → dumped (run_tests_call suite mode None) ≡ Ok (canonical (run_tests_call suite mode None))
 call_dumped suite mode short word =
-    dumped_is (run_tests_call suite mode) refl refl refl refl (le-ltb 16777216 _ (let all = call_length suite mode in omega (arith, all, short, word)))
+    dumped_is (run_tests_call suite mode None) refl refl refl refl (le-ltb 16777216 _ (let all = call_length suite mode in omega (arith, all, short, word)))

@@ -9,7 +9,7 @@ use Rattle.xd_journal.specs.declared.entry.Outcome.TheVariants.{Passed, Skipped,
 use Rattle.xd_journal.specs.declared.news.What.{What}
 use Rattle.xd_journal.specs.declared.news.What.TheVariants.{Ready, Collected, LogStart, Done, Back, Finished}
 use Rattle.xd_commands.specs.Calls.{Call, call_as_value, call_in}
-use Rattle.xd_commands.specs.Kwargs.{AreIndices, both, value_at, number_below, integer_of, text_in_tree, channel_of, items_of, test_index_of, each_of, indices_at, indices_kwargs}
+use Rattle.xd_commands.specs.Kwargs.{AreIndices, both, value_at, number_below, integer_of, text_in_tree, channel_of, test_index_of, texts_under, indices_at, indices_kwargs}
 
 -- an outcome by its word
 abbrev pub outcome_word : Outcome → List ℕ
@@ -49,7 +49,7 @@ event_tree _ = None
 
 -- the texts under the key `ids`, where it has a list of texts
 abbrev pub ids_under_key : Pairs → Option (List (List ℕ))
-ids_under_key ps = option_and_then (each_of text_in_tree) (option_and_then items_of (value_at (codes "ids") ps))
+ids_under_key ps = texts_under (codes "ids") ps
 
 -- the number of a test under the key `item_index`
 abbrev pub index_at : Pairs → Option ℕ

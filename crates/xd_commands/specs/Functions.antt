@@ -1,12 +1,12 @@
 -- The call that the value of a CHANNEL_EXEC is. The tuple of four is that of execnet's gateway_base.py and gateway.py; that a
 -- function is called by its name alone, the names, and the refusals and their order are choices of this project.
-use Rattle.std.specs.Prelude.{ℕ, List, [], Bool, true, false, Option, Some, None, option_and_then, ◌&&◌, codes, if◌then◌else◌}
+use Rattle.std.specs.Prelude.{ℕ, List, [], Bool, true, false, Option, Some, None, is_some, not, option_and_then, ◌&&◌, ◌||◌, codes, if◌then◌else◌}
 use Rattle.std.specs.Str.{bytes_eq}
 use Rattle.xd_edge.specs.declared.mode.ModeKind.{ModeKind}
 use Rattle.xd_edge.specs.declared.mode.ModeKind.TheVariants.{Each, Load, LoadScope, LoadFile, LoadGroup, WorkSteal}
 use Rattle.xd_value.specs.Tree.{Tree, Pairs, none, text, tuple, dict, no_trees, tree}
 use Rattle.xd_commands.specs.Calls.{has_text_keys}
-use Rattle.xd_commands.specs.Kwargs.{is_key, value_at, text_in_tree}
+use Rattle.xd_commands.specs.Kwargs.{both, is_key, value_at, text_in_tree, texts_under, truth_in_tree}
 use Rattle.xd_commands.specs.declared.function.CallFault.{CallFault}
 use Rattle.xd_commands.specs.declared.function.CallFault.TheVariants.{BadCall, SourceText, Unknown, Started}
 use Rattle.xd_commands.specs.declared.function.Called.{Called}
@@ -14,6 +14,7 @@ use Rattle.xd_commands.specs.declared.function.Called.TheVariants.{Runs, Refused
 use Rattle.xd_commands.specs.declared.function.Function.TheVariants as function
 use Rattle.xd_commands.specs.declared.function.FunctionName.{FunctionName}
 use Rattle.xd_commands.specs.declared.function.FunctionName.TheVariants as name
+use Rattle.xd_commands.specs.declared.work.Pick.{Pick}
 
 -- the error with which a refused call ends
 abbrev pub call_fault_text : CallFault → List ℕ
@@ -41,17 +42,33 @@ name_of w =
     else if bytes_eq w (codes "run_tests") then Some name.RunTests
     else None
 
--- `run_tests` with a path and a mode
-abbrev pub running_by : Option (List ℕ) → Option ModeKind → Called
-running_by None m = Refused BadCall
-running_by (Some path) None = Refused BadCall
-running_by (Some path) (Some mode) = Runs (function.RunTests path mode)
+-- one of the keys of a pick stands
+abbrev pub names_pick : Pairs → Bool
+names_pick ps = is_some (value_at (codes "pick") ps) || is_some (value_at (codes "rest") ps)
+
+-- a pick of these ids
+abbrev pub pick_of : List (List ℕ) → Bool → Pick
+pick_of ids rest = record { ids = ids; rest = rest }
+
+-- the pick: a list of ids under `pick`, and under `rest` whether the others are run after these
+abbrev pub pick_at : Pairs → Option Pick
+pick_at ps = both pick_of (texts_under (codes "pick") ps) (option_and_then truth_in_tree (value_at (codes "rest") ps))
+
+-- `run_tests` with a path and a mode, and with or without a pick
+abbrev pub running_by : Option (List ℕ) → Option ModeKind → Option Pick → Called
+running_by None m pick = Refused BadCall
+running_by (Some path) None pick = Refused BadCall
+running_by (Some path) (Some mode) pick = Runs (function.RunTests (record { suite = path; mode = mode; pick = pick }))
+
+-- `run_tests` by its own arguments: both keys of a pick stand, or neither does
+abbrev pub running_called : Pairs → Called
+running_called ps =
+    if names_pick ps && not (is_some (pick_at ps)) then Refused BadCall
+    else running_by (option_and_then text_in_tree (value_at (codes "suite") ps)) (option_and_then mode_by_word (option_and_then text_in_tree (value_at (codes "dist") ps))) (pick_at ps)
 
 -- `run_tests`, which may be called once on a link; that is looked at before its own arguments
 abbrev pub run_tests_called : Bool → Pairs → Called
-run_tests_called started ps =
-    if started then Refused Started
-    else running_by (option_and_then text_in_tree (value_at (codes "suite") ps)) (option_and_then mode_by_word (option_and_then text_in_tree (value_at (codes "dist") ps)))
+run_tests_called started ps = if started then Refused Started else running_called ps
 
 -- `fail`, with the error that it is given, if any
 abbrev pub fail_called : Pairs → Called

@@ -2,7 +2,7 @@
 -- with **kwargs in Python. The ranges of numbers are a choice of this project.
 use Rattle.std.specs.Prelude.{ℕ, ◌<◌, nat_lt, ℤ, pos, negsuc, Bool, false, List, [], ◌∷◌, Option, Some, None, option_and_then, map, codes, if◌then◌else◌}
 use Rattle.std.specs.Str.{bytes_eq}
-use Rattle.xd_value.specs.Tree.{Tree, Trees, Pairs, int, text, list, channel, no_trees, tree, no_pairs, pair}
+use Rattle.xd_value.specs.Tree.{Tree, Trees, Pairs, truth, int, text, list, channel, no_trees, tree, no_pairs, pair}
 use Rattle.xd_value.specs.View.{trees_of}
 
 -- both values, joined, where both are there
@@ -37,6 +37,11 @@ abbrev pub text_in_tree : Tree → Option (List ℕ)
 text_in_tree (text cs) = Some cs
 text_in_tree _ = None
 
+-- the truth value that a value is, if it is one
+abbrev pub truth_in_tree : Tree → Option Bool
+truth_in_tree (truth b) = Some b
+truth_in_tree _ = None
+
 -- the number of the channel that a value is, if it is one
 abbrev pub channel_of : Tree → Option ℕ
 channel_of (channel n) = Some n
@@ -55,6 +60,10 @@ test_index_of t = option_and_then (number_below 4294967296) (integer_of t)
 abbrev pub each_of : {A : Type 0} → (Tree → Option A) → Trees → Option (List A)
 each_of f no_trees = Some []
 each_of f (tree t ts) = both (λ x xs. x ∷ xs) (f t) (each_of f ts)
+
+-- the texts under a key, where it has a list of texts
+abbrev pub texts_under : List ℕ → Pairs → Option (List (List ℕ))
+texts_under key ps = option_and_then (each_of text_in_tree) (option_and_then items_of (value_at key ps))
 
 -- the numbers of tests under the key `indices`, where it has a list of such numbers
 abbrev pub indices_at : Pairs → Option (List ℕ)

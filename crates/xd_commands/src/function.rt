@@ -3,9 +3,11 @@ ghost use Rattle.std.specs.Prelude.{◌≡◌, option_and_then, codes, IfOk};
 ghost use Rattle.xd_value.specs.View.{view, pair_views};
 ghost use Rattle.xd_commands.specs.Kwargs.{value_at, text_in_tree};
 ghost use Rattle.xd_commands.specs.Words.{IsWord};
-ghost use Rattle.xd_commands.specs.Functions.{called_in, call_of, named, name_of, with_kwargs, fail_called, run_tests_called, mode_by_word, call_fault_text, has_no_source};
+ghost use Rattle.xd_commands.specs.Functions.{called_in, call_of, named, name_of, with_kwargs, fail_called, names_pick, pick_at, run_tests_called, mode_by_word, call_fault_text, has_no_source};
 
-use crate::{have_text_keys, is_word, text_at};
+use crate::kwargs::{texts_at, truth_at};
+use crate::{Pick, Work, have_text_keys, is_word, text_at, value_at};
+use std::alloc::Global;
 use xd_edge::{ModeKind, OutOfMemory, Text};
 use xd_value::Value;
 
@@ -16,8 +18,8 @@ pub enum Function {
     Echo,
     /// Ends at once with this error, or with `fail` where there is none.
     Fail(Option<Text>),
-    /// Runs the tests of a suite file, with the ids of a mode.
-    RunTests { suite: Text, mode: ModeKind },
+    /// Runs the tests of a suite file, or those that are picked of it.
+    RunTests(Work),
 }
 
 /// Why a call runs no function.
@@ -65,7 +67,7 @@ impl CallFault {
 
 /// What becomes of the call that the value of a CHANNEL_EXEC is. `started` says that `run_tests` was called before on
 /// this link.
-pub fn read_call(value: &Value, started: bool) -> Result<Called, OutOfMemory>
+pub fn read_call(alloc: Global, value: &Value, started: bool) -> Result<Called, OutOfMemory>
     ensures { IfOk result (λ c. c ≡ called_in started (view value.now)) }
 {
     let Value::Tuple(items) = value else {
@@ -74,11 +76,12 @@ pub fn read_call(value: &Value, started: bool) -> Result<Called, OutOfMemory>
     if items.len() != 4 {
         return Ok(Called::Refused(CallFault::BadCall));
     }
-    let called = call_of(&items[0], &items[1], &items[2], &items[3], started)?;
+    let called = call_of(alloc, &items[0], &items[1], &items[2], &items[3], started)?;
     Ok(called)
 }
 
 fn call_of(
+    alloc: Global,
     source: &Value,
     file: &Value,
     name: &Value,
@@ -89,7 +92,7 @@ fn call_of(
         c ≡ call_of started (view source.now) (view file.now) (view name.now) (view kwargs.now)) }
 {
     if is_plain(source, file) {
-        let called = named(name, kwargs, started)?;
+        let called = named(alloc, name, kwargs, started)?;
         Ok(called)
     } else {
         Ok(Called::Refused(CallFault::SourceText))
@@ -106,7 +109,7 @@ fn is_plain(source: &Value, file: &Value) -> bool
     }
 }
 
-fn named(name: &Value, kwargs: &Value, started: bool) -> Result<Called, OutOfMemory>
+fn named(alloc: Global, name: &Value, kwargs: &Value, started: bool) -> Result<Called, OutOfMemory>
     ensures { IfOk result (λ c. c ≡ named started (view name.now) (view kwargs.now)) }
 {
     let Value::Text(name) = name else {
@@ -118,7 +121,7 @@ fn named(name: &Value, kwargs: &Value, started: bool) -> Result<Called, OutOfMem
     let Value::Dict(kwargs) = kwargs else {
         return Ok(Called::Refused(CallFault::BadCall));
     };
-    let called = with_kwargs(name, kwargs, started)?;
+    let called = with_kwargs(alloc, name, kwargs, started)?;
     Ok(called)
 }
 
@@ -137,6 +140,7 @@ fn name_of(name: &Text) -> Option<FunctionName>
 }
 
 fn with_kwargs(
+    alloc: Global,
     name: FunctionName,
     kwargs: &[(Value, Value)],
     started: bool,
@@ -153,7 +157,7 @@ fn with_kwargs(
             Ok(called)
         }
         FunctionName::RunTests => {
-            let called = running(kwargs, started)?;
+            let called = running(alloc, kwargs, started)?;
             Ok(called)
         }
     }
@@ -171,18 +175,42 @@ fn failing(kwargs: &[(Value, Value)]) -> Result<Called, OutOfMemory>
     }
 }
 
-fn running(kwargs: &[(Value, Value)], started: bool) -> Result<Called, OutOfMemory>
+fn running(alloc: Global, kwargs: &[(Value, Value)], started: bool) -> Result<Called, OutOfMemory>
     ensures { IfOk result (λ c. c ≡ run_tests_called started (pair_views kwargs.now)) }
 {
     if started {
         return Ok(Called::Refused(CallFault::Started));
     }
+    let pick = pick_at(alloc, kwargs)?;
+    if names_pick(kwargs) && pick.is_none() {
+        return Ok(Called::Refused(CallFault::BadCall));
+    }
     match (text_at(kwargs, "suite"), mode_at(kwargs)) {
         (Some(suite), Some(mode)) => {
             let suite = suite.copy()?;
-            Ok(Called::Runs(Function::RunTests { suite, mode }))
+            Ok(Called::Runs(Function::RunTests(Work { suite, mode, pick })))
         }
         _ => Ok(Called::Refused(CallFault::BadCall)),
+    }
+}
+
+/// One of the two keys of a pick stands.
+fn names_pick(kwargs: &[(Value, Value)]) -> bool
+    ensures { result ≡ names_pick (pair_views kwargs.now) }
+{
+    value_at(kwargs, "pick").is_some() || value_at(kwargs, "rest").is_some()
+}
+
+/// The pick, where both of its keys stand and have what they need.
+fn pick_at(alloc: Global, kwargs: &[(Value, Value)]) -> Result<Option<Pick>, OutOfMemory>
+    ensures { IfOk result (λ pick. pick ≡ pick_at (pair_views kwargs.now)) }
+{
+    let Some(rest) = truth_at(kwargs, "rest") else {
+        return Ok(None);
+    };
+    match texts_at(alloc, kwargs, "pick")? {
+        Some(ids) => Ok(Some(Pick { ids, rest })),
+        None => Ok(None),
     }
 }
 

@@ -3,7 +3,7 @@ ghost use Rattle.std.specs.Prelude.{◌≡◌, option_map, option_and_then, IfOk
 ghost use Rattle.xd_value.specs.Tree.{text, int, list, pair};
 ghost use Rattle.xd_value.specs.View.{view, views, pair_views, trees_of};
 ghost use Rattle.xd_value.specs.declared.value.Value.{Value};
-ghost use Rattle.xd_commands.specs.Kwargs.{is_key, value_at, number_below, integer_of, text_in_tree, channel_of, items_of, test_index_of, each_of, indices_at, indices_kwargs, AreIndices};
+ghost use Rattle.xd_commands.specs.Kwargs.{is_key, value_at, number_below, integer_of, text_in_tree, truth_in_tree, channel_of, items_of, test_index_of, each_of, texts_under, indices_at, indices_kwargs, AreIndices};
 ghost use Rattle.xd_commands.specs.Words.{IsWord};
 
 use crate::word::{is_word, word_value};
@@ -53,6 +53,17 @@ pub fn text_at<'a>(kwargs: &'a [(Value, Value)], key: &str) -> Option<&'a Text>
 {
     match value_at(kwargs, key)? {
         Value::Text(text) => Some(text),
+        _ => None,
+    }
+}
+
+/// The truth value under a key.
+pub(crate) fn truth_at(kwargs: &[(Value, Value)], key: &str) -> Option<bool>
+    requires { IsWord key.now }
+    ensures { result ≡ option_and_then truth_in_tree (value_at key.now (pair_views kwargs.now)) }
+{
+    match value_at(kwargs, key)? {
+        Value::Bool(b) => Some(*b),
         _ => None,
     }
 }
@@ -154,8 +165,7 @@ pub(crate) fn texts_at(
 ) -> Result<Option<Texts>, OutOfMemory>
     requires { IsWord key.now }
     ensures { IfOk result (λ r.
-        r ≡ option_and_then (each_of text_in_tree)
-        (option_and_then items_of (value_at key.now (pair_views kwargs.now)))) }
+        r ≡ texts_under key.now (pair_views kwargs.now)) }
 {
     let Some(values) = items_at(kwargs, key) else {
         return Ok(None);

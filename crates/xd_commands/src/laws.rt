@@ -1,5 +1,5 @@
 // What is written is read back. Each law is a call that does nothing, and its contract is the law.
-ghost use Rattle.std.specs.Prelude.{◌≡◌, ◌≤◌, ℕ, List, Some, Ok, length};
+ghost use Rattle.std.specs.Prelude.{◌≡◌, ◌≤◌, ℕ, List, Some, None, Ok, length};
 ghost use Rattle.std.specs.Str.{encode_utf8_all};
 ghost use Rattle.xd_value.specs.Tree.{Tree};
 ghost use Rattle.xd_value.specs.Canonical.{canonical, dumped};
@@ -26,12 +26,12 @@ pub fn order_payload_law()
         dumped (order_tree o) ≡ Ok (canonical (order_tree o)) }
 {}
 
-/// The call of `run_tests` has a payload, where the path of the suite file and the word of the mode have at most 65,536
-/// bytes each.
+/// The call of `run_tests` without a pick has a payload, where the path of the suite file and the word of the mode have
+/// at most 65,536 bytes each.
 pub fn call_payload_law()
     ensures { (suite mode : List ℕ) → length (encode_utf8_all suite) ≤ 65536 →
         length (encode_utf8_all mode) ≤ 65536
-        → dumped (run_tests_call suite mode) ≡ Ok (canonical (run_tests_call suite mode)) }
+        → dumped (run_tests_call suite mode None) ≡ Ok (canonical (run_tests_call suite mode None)) }
 {}
 
 /// An event whose numbers are in their ranges, and whose ids are no more than a payload can hold, has a payload. What

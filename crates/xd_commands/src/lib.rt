@@ -15,6 +15,7 @@ mod outcome;
 mod status;
 mod word;
 mod words;
+mod work;
 
 pub use call::have_text_keys;
 pub use events::{event_value, value_event};
@@ -29,3 +30,4 @@ pub use orders::{order_value, value_order};
 pub use status::status_value;
 pub use word::{is_word, word_value};
 pub use words::{fail_word, large_suite_word, long_item_word, unread_suite_word};
+pub use work::{Pick, Work};

@@ -1,7 +1,8 @@
 // The fields of a tuple, by their places from 0 on.
 ghost use Rattle.std.specs.Prelude.{◌≡◌, option_map, option_and_then, IfOk};
 ghost use Rattle.xd_value.specs.View.{view, views};
-ghost use Rattle.xd_journal_file.specs.inner.Reading.{bytes_at_place, chunk_in_tree, code_in_range, field_at, ids_in_tree, indices_at_place, ms_in_tree, number_at_place, outcome_in_tree, text_at_place, truth_in_tree};
+ghost use Rattle.xd_journal_file.specs.inner.Reading.{bytes_at_place, chunk_in_tree, code_in_range, field_at, ids_in_tree, indices_at_place, ms_in_tree, number_at_place, outcome_in_tree, text_at_place};
+ghost use Rattle.xd_commands.specs.Kwargs.{truth_in_tree};
 
 use crate::name::outcome_of;
 use std::alloc::Global;

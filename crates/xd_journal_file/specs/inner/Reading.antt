@@ -4,9 +4,9 @@ use Rattle.std.specs.Prelude.{ℕ, zero, suc, ℤ, pos, negsuc, nat_lt, Bool, Li
 use Rattle.std.specs.Str.{bytes_eq}
 use Rattle.xd_edge.specs.declared.mode.ModeKind.{ModeKind}
 use Rattle.xd_edge.specs.declared.mode.ModeKind.TheVariants.{Local}
-use Rattle.xd_value.specs.Tree.{Tree, Trees, none, truth, int, bytes, text, list, tuple, no_trees, tree}
+use Rattle.xd_value.specs.Tree.{Tree, Trees, none, int, bytes, text, list, tuple, no_trees, tree}
 use Rattle.xd_commands.specs.Functions.{mode_by_word}
-use Rattle.xd_commands.specs.Kwargs.{each_of, integer_of, items_of, number_below, test_index_of, text_in_tree}
+use Rattle.xd_commands.specs.Kwargs.{each_of, integer_of, items_of, number_below, test_index_of, text_in_tree, truth_in_tree}
 use Rattle.xd_journal.specs.declared.settings.Settings.{Settings}
 use Rattle.xd_journal.specs.declared.entry.Ids.{Ids}
 use Rattle.xd_journal.specs.declared.entry.Ids.TheVariants as ids
@@ -43,11 +43,6 @@ bytes_in_tree _ = None
 -- the bytes at a place
 abbrev pub bytes_at_place : Trees → ℕ → Option (List ℕ)
 bytes_at_place ts n = option_and_then bytes_in_tree (field_at ts n)
-
--- the truth value that a value is, if it is one
-abbrev pub truth_in_tree : Tree → Option Bool
-truth_in_tree (truth b) = Some b
-truth_in_tree _ = None
 
 -- the number of 32 bits that a value is, or that it is None
 abbrev pub chunk_in_tree : Tree → Option (Option ℕ)
