@@ -1,5 +1,5 @@
 // The tests of a suite that ids name.
-ghost use Rattle.std.specs.Prelude.{◌≡◌, ◌||◌, ◌++◌, ℕ, List, [], not, filter, if◌then◌else◌, IfOk};
+ghost use Rattle.std.specs.Prelude.{◌≡◌, ◌≢◌, ◌||◌, ◌++◌, ℕ, List, [], not, filter, if◌then◌else◌, IfOk};
 ghost use Rattle.std.specs.List.{list_any};
 ghost use Rattle.xd_suite.specs.Picked.{is_named, lists_text, picked};
 ghost use Rattle.xd_suite.specs.Tests.{group_id};
@@ -13,7 +13,7 @@ use xd_edge::{OutOfMemory, Text};
 
 // Tests that are named, and the others, both in the order of the suite.
 #[derive(Drop)]
-struct Split {
+struct Divided {
     named: Vec<Test>,
     others: Vec<Test>,
 }
@@ -27,15 +27,15 @@ pub fn picked(
 ) -> Result<Vec<Test>, OutOfMemory>
     ensures { IfOk result (λ all. all.items ≡ picked ids.now rest tests.items) }
 {
-    let split = split(alloc, tests, ids)?;
-    let all = named_first(split, rest)?;
+    let divided = divide(alloc, tests, ids)?;
+    let all = named_first(divided, rest)?;
     Ok(all)
 }
 
-fn split(alloc: Global, tests: Vec<Test>, ids: &[Text]) -> Result<Split, OutOfMemory>
-    ensures named { IfOk result (λ split. split.named.items ≡ filter (is_named ids.now) tests.items) }
-    ensures others { IfOk result (λ split.
-        split.others.items ≡ filter (λ t. not (is_named ids.now t)) tests.items) }
+fn divide(alloc: Global, tests: Vec<Test>, ids: &[Text]) -> Result<Divided, OutOfMemory>
+    ensures named { IfOk result (λ divided. divided.named.items ≡ filter (is_named ids.now) tests.items) }
+    ensures others { IfOk result (λ divided.
+        divided.others.items ≡ filter (λ t. not (is_named ids.now t)) tests.items) }
 {
     let ids = set_of(alloc, ids)?;
     let mut named = Vec::new(alloc);
@@ -47,14 +47,16 @@ fn split(alloc: Global, tests: Vec<Test>, ids: &[Text]) -> Result<Split, OutOfMe
             others.push(test)?;
         }
     }
-    Ok(Split { named, others })
+    Ok(Divided { named, others })
 }
 
-fn named_first(split: Split, rest: bool) -> Result<Vec<Test>, OutOfMemory>
-    ensures none { IfOk result (λ all. split.named.items ≡ [] → all.items ≡ split.others.items) }
+fn named_first(divided: Divided, rest: bool) -> Result<Vec<Test>, OutOfMemory>
+    ensures none { IfOk result (λ all. divided.named.items ≡ [] → all.items ≡ divided.others.items) }
+    ensures some { IfOk result (λ all. divided.named.items ≢ [] →
+        all.items ≡ divided.named.items ++ (if rest then divided.others.items else [])) }
 {
-    let mut all = split.named;
-    let mut others = split.others;
+    let mut all = divided.named;
+    let mut others = divided.others;
     if all.is_empty() {
         return Ok(others);
     }
