@@ -4,6 +4,7 @@
 #![tactic(auto)]
 
 mod fault;
+mod pick;
 mod reading;
 mod repeats;
 mod rules;

@@ -1,10 +1,12 @@
 // The tests of a suite file.
 ghost use Rattle.std.specs.Prelude.{◌≡◌, ◌<◌, None, length, IfOk, IfErr};
 ghost use Rattle.xd_suite.specs.Faults.{repeat_of};
+ghost use Rattle.xd_suite.specs.Picked.{picked};
 ghost use Rattle.xd_suite.specs.Suite.{IsSuiteOf, IsSuiteRefused};
 ghost use Rattle.xd_suite.specs.Tests.{ids_by_mode, run_at};
 
 use crate::fault::of_file;
+use crate::pick::picked;
 use crate::reading::read_suite;
 use crate::test::ids_in;
 use crate::{SuiteRefusal, SuiteWhat, Test};
@@ -74,5 +76,14 @@ impl Suite {
         ensures program { 0 < length result.now }
     {
         &self.tests[test as usize].run.items
+    }
+
+    /// The tests that these ids name, in the order of the suite, and then, where `rest`, the others in that order; the
+    /// whole suite where none of its tests is named. An id names a test whose id it is, alone or with `@` and its group.
+    pub fn pick(self, alloc: Global, ids: &[Text], rest: bool) -> Result<Suite, OutOfMemory>
+        ensures { IfOk result (λ s. s ≡ picked ids.now rest self) }
+    {
+        let tests = picked(alloc, self.tests, ids, rest)?;
+        Ok(Suite { tests })
     }
 }

@@ -47,7 +47,8 @@ fn group_id(alloc: Global, test: &Test) -> Result<Text, OutOfMemory>
     }
 }
 
-fn join(alloc: Global, id: &Text, group: &Text) -> Result<Text, OutOfMemory>
+/// An id, `@` and a group.
+pub fn join(alloc: Global, id: &Text, group: &Text) -> Result<Text, OutOfMemory>
     ensures { IfOk result (λ text. text ≡ id.now ++ 64 ∷ group.now) }
 {
     let text = format!(in alloc; "{}@{}", id.as_str(), group.as_str())?;
