@@ -109,6 +109,8 @@ asked_of rows = record {
   reorder = not (flag (codes "no-loadscope-reorder") rows);
   retries = number 100 (codes "crash-retries") rows;
   journal = option_text (codes "journal") rows;
+  lf = option_text (codes "lf") rows;
+  ff = option_text (codes "ff") rows;
 }
 
 -- an option that does not stand, or whose value is a path
@@ -116,6 +118,6 @@ abbrev pub is_path_or_none : Option (List ℕ) → Bool
 is_path_or_none None = true
 is_path_or_none (Some path) = is_path path
 
--- the path of the suite is one, and so is that of the journal, where it stands
+-- the path of the suite is one, and so is that of each journal that is named
 abbrev pub has_paths : Asked → Bool
-has_paths a = is_path a.suite && is_path_or_none a.journal
+has_paths a = is_path a.suite && is_path_or_none a.journal && is_path_or_none a.lf && is_path_or_none a.ff

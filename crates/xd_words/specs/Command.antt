@@ -37,9 +37,9 @@ abbrev pub long_flag_rule : List ℕ → Rule
 long_flag_rule name = record (new_rule name) { long = Some name; action = Some SetTrue }
 
 -- SUITE -n N --dist MODE -d --tx SPEC --maxfail K -x --max-worker-restart M --maxschedchunk C --no-loadscope-reorder
--- --crash-retries R --journal FILE
+-- --crash-retries R --journal FILE --lf FILE --ff FILE
 unfoldable pub main_app : App
-main_app = with_rule (with_rule (with_rule (with_rule (with_rule (with_rule (with_rule (with_rule (with_rule (with_rule (with_rule (with_rule plain_app
+main_app = with_rule (with_rule (with_rule (with_rule (with_rule (with_rule (with_rule (with_rule (with_rule (with_rule (with_rule (with_rule (with_rule (with_rule plain_app
     (path_rule (codes "suite")))
     (short_rule (codes "n") 110))
     (long_rule (codes "dist")))
@@ -51,7 +51,9 @@ main_app = with_rule (with_rule (with_rule (with_rule (with_rule (with_rule (wit
     (long_rule (codes "maxschedchunk")))
     (long_flag_rule (codes "no-loadscope-reorder")))
     (long_rule (codes "crash-retries")))
-    (long_rule (codes "journal"))
+    (long_rule (codes "journal")))
+    (long_rule (codes "lf")))
+    (long_rule (codes "ff"))
 
 -- wire FILE and replay FILE, after their names
 unfoldable pub file_app : App

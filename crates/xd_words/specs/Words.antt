@@ -1,6 +1,6 @@
 -- What the words after the program's name ask for, or why they are refused. The options are pytest-xdist's; the refusals
 -- and their order are a choice of this project.
-use Rattle.std.specs.Prelude.{ℕ, ◌*◌, ◌==◌, ◌≡◌, ◌≢◌, ◌≤◌, Bool, ◌&&◌, ◌||◌, not, List, [], ◌∷◌, map, length, replicate, Option, Some, None, is_some, unwrap_or, Result, Ok, Err, if◌then◌else◌, codes}
+use Rattle.std.specs.Prelude.{ℕ, ◌*◌, ◌==◌, ◌≡◌, ◌≢◌, ◌≤◌, Bool, ◌&&◌, ◌||◌, false, not, true, List, [], ◌∷◌, map, length, replicate, Option, Some, None, is_some, unwrap_or, Result, Ok, Err, if◌then◌else◌, codes}
 use Rattle.std.specs.Str.{bytes_eq, encode_utf8_all}
 use Rattle.clap.specs.Words.{Row, first_of}
 use Rattle.xd_edge.specs.declared.mode.ModeKind.TheVariants.{Load, Local as WithoutWorkers}
@@ -14,10 +14,11 @@ use Rattle.xd_words.specs.Asked.{asked_of, has_paths, is_path, is_well_formed, p
 use Rattle.xd_words.specs.Command.{file_app, main_app, socketserver_app, worker_app}
 use Rattle.xd_words.specs.declared.asked.Asked.{Asked}
 use Rattle.xd_words.specs.declared.keeps.Keeps.{Keeps}
+use Rattle.xd_words.specs.declared.keeps.Last.{Last}
 use Rattle.xd_words.specs.declared.plan.Plan.{Plan}
 use Rattle.xd_words.specs.declared.plan.Plan.TheVariants.{Local, Linked, Wire, Replay, Worker, SocketServer, Refused}
 use Rattle.xd_words.specs.declared.refusal.WordsRefusal.{WordsRefusal}
-use Rattle.xd_words.specs.declared.refusal.WordsRefusal.TheVariants.{BadWords, CountWithPlaces, FirstWithMaxfail, LoadWithDist, NoWorkers, BadSpec}
+use Rattle.xd_words.specs.declared.refusal.WordsRefusal.TheVariants.{BadWords, CountWithPlaces, FirstWithMaxfail, LoadWithDist, LastWithFirst, NoWorkers, BadSpec}
 
 -- ---- the main command
 
@@ -35,6 +36,7 @@ exclusion a =
     if is_some a.count && has_places a then Some CountWithPlaces
     else if a.first && is_some a.maxfail then Some FirstWithMaxfail
     else if a.load && is_some a.mode then Some LoadWithDist
+    else if is_some a.lf && is_some a.ff then Some LastWithFirst
     else if names_mode a && not (is_some a.count) && not (has_places a) then Some NoWorkers
     else None
 
@@ -58,15 +60,22 @@ settings_of a workers = record {
   retries = unwrap_or a.retries 0;
 }
 
--- the journal, where --journal names its file
-abbrev pub keeps_of : Option (List ℕ) → Keeps
-keeps_of file = record { journal = file }
+-- the journal whose failed tests are run: alone where --lf names it, else before the others where --ff does
+abbrev pub last_of : Option (List ℕ) → Option (List ℕ) → Option Last
+last_of (Some file) ff = Some (record { file = file; rest = false })
+last_of None (Some file) = Some (record { file = file; rest = true })
+last_of None None = None
+
+-- the journals that --journal, --lf and --ff name
+-- Example: `--ff last` keeps no journal, and runs the tests that failed in `last` before the others.
+abbrev pub keeps_of : Option (List ℕ) → Option (List ℕ) → Option (List ℕ) → Keeps
+keeps_of journal lf ff = record { journal = journal; last = last_of lf ff }
 
 -- without workers the tests are run in the program itself
 unfoldable pub plan_with_places : Asked → List Place → Plan
 plan_with_places a places =
-    if length places == 0 then Local a.suite (maxfail_of a) (keeps_of a.journal)
-    else Linked a.suite (settings_of a (length places)) places (keeps_of a.journal)
+    if length places == 0 then Local a.suite (maxfail_of a) (keeps_of a.journal a.lf a.ff)
+    else Linked a.suite (settings_of a (length places)) places (keeps_of a.journal a.lf a.ff)
 
 -- a run at these places, or the refusal of the words of --tx
 abbrev pub run_where : Asked → Result (List Place) SpecFault → Plan

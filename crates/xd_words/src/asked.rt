@@ -37,6 +37,10 @@ pub struct Asked {
     pub retries: Option<u32>,
     /// `--journal FILE`.
     pub journal: Option<Text>,
+    /// `--lf FILE`.
+    pub lf: Option<Text>,
+    /// `--ff FILE`.
+    pub ff: Option<Text>,
 }
 
 /// What well formed words say.
@@ -53,6 +57,8 @@ pub fn asked_of(alloc: Global, matches: &ArgMatches) -> Result<Asked, OutOfMemor
     let suite = path_of(alloc, matches, "suite")?;
     let tx = values(alloc, matches, "tx")?;
     let journal = option_text(alloc, matches, "journal")?;
+    let lf = option_text(alloc, matches, "lf")?;
+    let ff = option_text(alloc, matches, "ff")?;
     Ok(Asked {
         suite,
         count: number(matches, "n", 32),
@@ -66,6 +72,8 @@ pub fn asked_of(alloc: Global, matches: &ArgMatches) -> Result<Asked, OutOfMemor
         reorder: !flag(matches, "no-loadscope-reorder"),
         retries: number(matches, "crash-retries", 100),
         journal,
+        lf,
+        ff,
     })
 }
 
@@ -95,11 +103,14 @@ pub fn is_path(path: &Text) -> bool
     path.as_str().len() <= 65_536
 }
 
-/// The path of the suite is one, and so is that of the journal, where it stands.
+/// The path of the suite is one, and so is that of each journal that is named.
 pub fn has_paths(asked: &Asked) -> bool
     ensures { result ≡ has_paths asked.now }
 {
-    is_path(&asked.suite) && is_path_or_none(&asked.journal)
+    is_path(&asked.suite)
+        && is_path_or_none(&asked.journal)
+        && is_path_or_none(&asked.lf)
+        && is_path_or_none(&asked.ff)
 }
 
 fn is_path_or_none(path: &Option<Text>) -> bool

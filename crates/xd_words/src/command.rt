@@ -92,6 +92,8 @@ pub fn main_command<'a>(alloc: Global) -> Result<Command<'a>, AllocError>
     let command = with_arg(command, long_flag(alloc, "no-loadscope-reorder"))?;
     let command = with_arg(command, long(alloc, "crash-retries"))?;
     let command = with_arg(command, long(alloc, "journal"))?;
+    let command = with_arg(command, long(alloc, "lf"))?;
+    let command = with_arg(command, long(alloc, "ff"))?;
     Ok(command)
 }
 

@@ -10,7 +10,7 @@ mod places;
 mod plan;
 mod refusal;
 
-pub use keeps::Keeps;
+pub use keeps::{Keeps, Last};
 pub use places::Places;
 pub use plan::{Plan, plan_of};
 pub use refusal::WordsRefusal;

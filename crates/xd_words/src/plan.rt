@@ -9,12 +9,12 @@ ghost use Rattle.xd_spec.specs.Spec.{address_in};
 ghost use Rattle.xd_spec.specs.Tx.{tx_of};
 ghost use Rattle.xd_words.specs.Asked.{rows_in};
 ghost use Rattle.xd_words.specs.Command.{file_app, main_app, socketserver_app, worker_app};
-ghost use Rattle.xd_words.specs.Words.{Fits, exclusion, named_file, keeps_of, main_plan, maxfail_of, places_of, plan_by, plan_for};
+ghost use Rattle.xd_words.specs.Words.{Fits, exclusion, named_file, keeps_of, last_of, main_plan, maxfail_of, places_of, plan_by, plan_for};
 ghost use Rattle.xd_words.specs.Words.{plan_of, plan_of_utf8, plan_with_places, replay_of, serve_at, settings_of, socketserver_plan, wire_of, worker_plan};
 
 use crate::asked::{Asked, asked_of, has_paths, is_path, is_well_formed, path_of};
 use crate::matches::{file_matches, main_matches, socketserver_matches, value, worker_matches};
-use crate::{Keeps, Places, WordsRefusal};
+use crate::{Keeps, Last, Places, WordsRefusal};
 use clap::ArgMatches;
 use std::alloc::Global;
 use xd_edge::{Env, ModeKind, OutOfMemory, Text};
@@ -246,6 +246,8 @@ fn exclusion(asked: &Asked) -> Option<WordsRefusal>
         Some(WordsRefusal::FirstWithMaxfail)
     } else if asked.load && asked.mode.is_some() {
         Some(WordsRefusal::LoadWithDist)
+    } else if asked.lf.is_some() && asked.ff.is_some() {
+        Some(WordsRefusal::LastWithFirst)
     } else if (asked.load || asked.mode.is_some()) && !has_count && !has_places {
         Some(WordsRefusal::NoWorkers)
     } else {
@@ -329,7 +331,7 @@ fn run_at(asked: Asked, places: Places) -> Plan
         return Plan::Local {
             suite: asked.suite,
             maxfail,
-            keeps: keeps_of(asked.journal),
+            keeps: keeps_of(asked.journal, asked.lf, asked.ff),
         };
     }
     let settings = settings_of(&asked, places.items.len() as u32);
@@ -337,14 +339,29 @@ fn run_at(asked: Asked, places: Places) -> Plan
         suite: asked.suite,
         settings,
         places,
-        keeps: keeps_of(asked.journal),
+        keeps: keeps_of(asked.journal, asked.lf, asked.ff),
     }
 }
 
-fn keeps_of(journal: Option<Text>) -> Keeps
-    ensures { result ≡ keeps_of journal }
+// The journals that the run names.
+fn keeps_of(journal: Option<Text>, lf: Option<Text>, ff: Option<Text>) -> Keeps
+    ensures { result ≡ keeps_of journal lf ff }
 {
-    Keeps { journal }
+    Keeps {
+        journal,
+        last: last_of(lf, ff),
+    }
+}
+
+// The journal whose failed tests are run.
+fn last_of(lf: Option<Text>, ff: Option<Text>) -> Option<Last>
+    ensures { result ≡ last_of lf ff }
+{
+    match (lf, ff) {
+        (Some(file), _) => Some(Last { file, rest: false }),
+        (None, Some(file)) => Some(Last { file, rest: true }),
+        (None, None) => None,
+    }
 }
 
 fn maxfail_of(asked: &Asked) -> u32

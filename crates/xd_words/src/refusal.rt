@@ -13,6 +13,8 @@ pub enum WordsRefusal {
     FirstWithMaxfail,
     /// `-d` with `--dist`.
     LoadWithDist,
+    /// `--lf` with `--ff`.
+    LastWithFirst,
     /// A mode without `-n` and `--tx`.
     NoWorkers,
     /// The words of `--tx` are refused.
@@ -29,6 +31,7 @@ impl WordsRefusal {
             WordsRefusal::CountWithPlaces => "xdrun: -n and --tx exclude each other\n",
             WordsRefusal::FirstWithMaxfail => "xdrun: -x and --maxfail exclude each other\n",
             WordsRefusal::LoadWithDist => "xdrun: -d and --dist exclude each other\n",
+            WordsRefusal::LastWithFirst => "xdrun: --lf and --ff exclude each other\n",
             WordsRefusal::NoWorkers => "xdrun: please specify -n or --tx\n",
             WordsRefusal::BadSpec => "xdrun: bad spec\n",
         }
