@@ -1,6 +1,6 @@
 -- A command has a payload, and so has the call that runs tests.
 use Rattle.std.proofs.Common.{not, ◌&&◌, length-append, Err, ◌≡◌, ℕ, suc, ◌+◌, ◌*◌, ◌<◌, ◌≤◌, max, nat_lt, pos, Bool, true, false, List, [], ◌∷◌, ◌++◌, length, map, None, Ok, refl, ap, sym, subst, arith}
-use Rattle.std.specs.Prelude.{codes, if◌then◌else◌}
+use Rattle.std.specs.Prelude.{codes, is_ok, if◌then◌else◌}
 use Rattle.std.specs.Int.{w32, to_be_bytes}
 use Rattle.std.specs.Str.{encode_utf8_all}
 use Rattle.std.specs.Fmt.{decimal}
@@ -59,6 +59,21 @@ chosen a false c d e bytes p q r s t = cc
 chosen a b false d e bytes p q r s t = cc
 chosen a b c false e bytes p q r s t = cc
 chosen a b c d true bytes p q r s t = cc
+
+-- what is written is the canonical form
+written : (a b c d e : Bool) (bytes : List ℕ)
+    → is_ok (if a then Err fault.TooDeep else if not b then Err fault.Unhashable else if not c then Err fault.Repeated else if not d then Err fault.BadChannel else if e then Err fault.TooLong else Ok bytes) ≡ true
+    → (if a then Err fault.TooDeep else if not b then Err fault.Unhashable else if not c then Err fault.Repeated else if not d then Err fault.BadChannel else if e then Err fault.TooLong else Ok bytes) ≡ Ok bytes
+written false true true true false bytes h = refl
+written true b c d e bytes h = absurd (cc h)
+written false false c d e bytes h = absurd (cc h)
+written false true false d e bytes h = absurd (cc h)
+written false true true false e bytes h = absurd (cc h)
+written false true true true true bytes h = absurd (cc h)
+
+pub dumped_written : (t : Tree) → is_ok (dumped t) ≡ true → dumped t ≡ Ok (canonical t)
+unfolding dumped
+dumped_written t h = written (nat_lt 64 (depth t)) (all_pass Hashable t) (all_pass Distinct t) (all_pass Channels t) (nat_lt 16777216 (length (canonical t))) (canonical t) h
 
 pub dumped_is : (t : Tree) → nat_lt 64 (depth t) ≡ false → all_pass Hashable t ≡ true → all_pass Distinct t ≡ true → all_pass Channels t ≡ true → nat_lt 16777216 (length (canonical t)) ≡ false → dumped t ≡ Ok (canonical t)
 unfolding dumped

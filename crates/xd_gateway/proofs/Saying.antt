@@ -11,10 +11,10 @@ use Rattle.xd_factory.specs.View.{fault_of, next_of}
 use Rattle.xd_gateway.specs.declared.fault.GatewayFault.{GatewayFault}
 use Rattle.xd_gateway.specs.declared.fault.GatewayFault.TheVariants.{SendFault, Channel, Opening, OutOfMemory}
 use Rattle.xd_gateway.specs.declared.gateway.Gateway.{Gateway}
-use Rattle.xd_gateway.specs.Calls.{Wanted, exec_by, exec_message, exec_opened, open_refusal, opened_by, opening_wanted, status_message, status_wanted}
+use Rattle.xd_gateway.specs.Calls.{IsPayloadOf, Wanted, exec_by, exec_message, exec_opened, open_refusal, opened_by, opening_wanted, status_message, status_wanted}
 use Rattle.xd_gateway.specs.Line.{GatewaySink, PrintsBytes, Says, write_answer}
 use Rattle.xd_gateway.specs.News.{Heard}
-use Rattle.xd_gateway.specs.inner.Opening.{IsWanted, IsPayloadOf, IsUnopened}
+use Rattle.xd_gateway.specs.inner.Opening.{IsWanted, IsUnopened}
 use Rattle.xd_gateway.specs.Stands.{IsBegun, IsNew, StandsForHeard}
 use Rattle.xd_gateway.specs.View.{KeepsChannels, channels_of, has_finished, side_of}
 

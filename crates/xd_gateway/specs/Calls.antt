@@ -1,6 +1,6 @@
 -- What the calls of a gateway say, why one says nothing, and what they make of the channels. The messages are those of
 -- execnet's gateway.py.
-use Rattle.std.specs.Prelude.{ℕ, ◌==◌, nat_lt, List, [], ◌∷◌, Option, Some, None, Result, Ok, Err, if◌then◌else◌}
+use Rattle.std.specs.Prelude.{◌≡◌, ℕ, ◌==◌, nat_lt, List, [], ◌∷◌, Option, Some, None, Result, Ok, Err, if◌then◌else◌}
 use Rattle.xd_value.specs.Tree.{Tree, Pairs, none, text, dict, tuple, tree, no_trees, pair, no_pairs}
 use Rattle.xd_value.specs.View.{view}
 use Rattle.xd_value.specs.Canonical.{dumped}
@@ -58,6 +58,17 @@ abbrev pub call_tree : List ℕ → Pairs → Tree
 call_tree name kwargs = parts_tree (text []) (text name) (dict kwargs)
 
 -- ---- what is said, or why nothing is
+
+-- what comes of the making of a payload: the one that is wanted, or why there is none, or memory ran out
+abbrev pub IsPayloadOf : Result (List ℕ) DumpFault → Result (List ℕ) GatewayFault → Type 0
+IsPayloadOf wanted (Ok b) = wanted ≡ Ok b
+IsPayloadOf wanted (Err (Channel (send_fault.Dump f))) = wanted ≡ Err f
+IsPayloadOf wanted (Err (Channel send_fault.Unknown)) = ⊥
+IsPayloadOf wanted (Err (Channel send_fault.SendClosed)) = ⊥
+IsPayloadOf wanted (Err (Channel send_fault.OutOfMemory)) = ⊥
+IsPayloadOf wanted (Err (Opening f)) = ⊥
+IsPayloadOf wanted (Err NotSent) = ⊥
+IsPayloadOf wanted (Err OutOfMemory) = Unit {0}
 
 -- the item with this payload is said, or why there is none
 abbrev pub item_wanted : ℕ → Result (List ℕ) SendFault → Wanted

@@ -6,8 +6,8 @@ ghost use Rattle.xd_value.specs.Reading.{snoc_pair};
 ghost use Rattle.xd_value.specs.Canonical.{dumped};
 ghost use Rattle.xd_factory.specs.SideTable.{opened};
 ghost use Rattle.xd_factory.specs.View.{next_of};
-ghost use Rattle.xd_gateway.specs.Calls.{call_tree, exec_opened, exec_wanted, kwargs_of, parts_tree, say_wanted, status_wanted};
-ghost use Rattle.xd_gateway.specs.inner.Opening.{IsWanted, IsPayloadOf};
+ghost use Rattle.xd_gateway.specs.Calls.{IsPayloadOf, call_tree, exec_opened, exec_wanted, kwargs_of, parts_tree, say_wanted, status_wanted};
+ghost use Rattle.xd_gateway.specs.inner.Opening.{IsWanted};
 
 use crate::side::{open_call, open_next};
 use crate::{Gateway, GatewayFault};
@@ -94,8 +94,8 @@ fn item_of(side: &mut Side, number: u32, value: &Value) -> Result<Message, Gatew
     }
 }
 
-// The payload of a call.
-fn call_payload(
+/// The payload of a call, or why it has none.
+pub fn call_payload(
     alloc: Global,
     name: &Text,
     kwargs: Vec<(Text, Value)>,

@@ -9,6 +9,7 @@ mod hear;
 mod laws;
 mod side;
 
+pub use calls::call_payload;
 pub use fault::GatewayFault;
 pub use gateway::Gateway;
 pub use laws::{a_worker_can_be_told, messages_have_one_meaning};

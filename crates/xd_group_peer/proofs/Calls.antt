@@ -1,6 +1,6 @@
 -- What is written to a worker: its call and its orders.
 use Rattle.std.proofs.Common.{◌≡◌, ◌≤◌, ℕ, List, [], ◌∷◌, Bool, true, false, Option, Some, None, option_map, Result, Ok, Err, length, refl, sym, ◌∙◌, ap, subst, arith}
-use Rattle.std.specs.Prelude.{option_and_then, codes}
+use Rattle.std.specs.Prelude.{is_ok, option_and_then, codes}
 use Rattle.std.specs.Str.{chars, encode_utf8_all}
 use Rattle.std.proofs.lemmas.Bool.{eq-eqb}
 use Rattle.std.proofs.lemmas.Map.Entries.{length-keys_of}
@@ -24,9 +24,9 @@ use Rattle.xd_factory.proofs.Entries.{here_entries}
 use Rattle.xd_journal.specs.declared.entry.Entry.{Entry}
 use Rattle.xd_commands.specs.declared.order.Order.{Order}
 use Rattle.xd_commands.specs.Orders.{order_of, order_tree}
-use Rattle.xd_commands.specs.Limits.{run_tests_call}
+use Rattle.xd_commands.specs.declared.work.Work.{Work}
 use Rattle.xd_commands.proofs.WordBytes.{chars_word}
-use Rattle.xd_commands.proofs.Fitting.{call_dumped}
+use Rattle.xd_commands.proofs.Fitting.{call_dumped, dumped_written}
 use Rattle.xd_gateway.specs.declared.fault.GatewayFault.{GatewayFault}
 use Rattle.xd_gateway.specs.declared.fault.GatewayFault.TheVariants.{SendFault, Channel, Opening, OutOfMemory}
 use Rattle.xd_gateway.specs.declared.gateway.Gateway.{Gateway}
@@ -36,7 +36,7 @@ use Rattle.xd_gateway.specs.Stands.{IsNew}
 use Rattle.xd_gateway.specs.View.{IsLost, SaysOn, is_broken, line_of, side_of}
 use Rattle.xd_report_phrases.specs.Names.{mode_text}
 use Rattle.xd_group_peer.specs.inner.Orders.{WritesOrder}
-use Rattle.xd_group_peer.specs.ToLink.{call_kwargs, call_message, order_message, payload_message}
+use Rattle.xd_group_peer.specs.ToLink.{CallFits, call_kwargs, call_message, order_message, payload_message, work_call}
 
 -- ---- a side on which nothing came
 
@@ -65,19 +65,27 @@ mode_short mode.LoadFile = omega arith
 mode_short mode.LoadGroup = omega arith
 mode_short mode.WorkSteal = omega arith
 
+pub whole_fits : (work : Work) → work.pick ≡ None → length (encode_utf8_all work.suite) ≤ 65536 → CallFits work
+whole_fits work none short = rw none (call_dumped work.suite (mode_text work.mode) short (mode_short work.mode))
+
+pub fits_is : (work : Work) → is_ok (dumped (work_call work)) ≡ true → CallFits work
+fits_is work h = dumped_written (work_call work) h
+
+pub call_dumps : (name : List ℕ) (kwargs : Pairs) (work : Work) → name ≡ codes "run_tests" → kwargs ≡ call_kwargs work → dumped (call_tree name kwargs) ≡ dumped (work_call work)
+call_dumps name kwargs work n k = ap (λ (x : List ℕ). dumped (call_tree x kwargs)) n ∙ ap (λ (x : Pairs). dumped (call_tree (codes "run_tests") x)) k
+
 call_by : (s : Side) (d : Result (List ℕ) DumpFault) (b : List ℕ) → d ≡ Ok b → open_refusal s ≡ None → next_of s ≡ 1 → exec_by d s ≡ Ok (exec_message 1 b)
 call_by s d b e f n = ap (λ (x : Result (List ℕ) DumpFault). exec_by x s) e ∙ (ap (λ (o : _). opening_wanted o (exec_message (next_of s) b)) f ∙ ap (λ (i : ℕ). Ok (exec_message i b)) n)
 
 module _ {K : Type 0} where
-  pub call_wanted : (g : Gateway K) (name : List ℕ) (kwargs : Pairs) (suite : List ℕ) (m : ModeKind) → IsNew g → length (encode_utf8_all suite) ≤ 65536 → name ≡ codes "run_tests" → kwargs ≡ call_kwargs suite m → exec_wanted name kwargs (side_of g) ≡ Ok (call_message suite m)
-  call_wanted g name kwargs suite m new short n k =
+  pub call_wanted : (g : Gateway K) (name : List ℕ) (kwargs : Pairs) (work : Work) → IsNew g → CallFits work → name ≡ codes "run_tests" → kwargs ≡ call_kwargs work → exec_wanted name kwargs (side_of g) ≡ Ok (call_message work)
+  call_wanted g name kwargs work new fits n k =
       let s = side_of g in
       let t = new.channels in
       let next : next_of s ≡ 1 = ap (λ (x : ChannelTable). x.next) t in
       let none = open_none s (ap (λ (x : ChannelTable). x.finished) t) (no_entries s (λ c. ap (λ (x : ChannelTable). x.slot c) t)) next in
-      let all : dumped (call_tree name kwargs) ≡ Ok (canonical (run_tests_call suite (mode_text m))) =
-      ap (λ (x : List ℕ). dumped (call_tree x kwargs)) n ∙ (ap (λ (x : Pairs). dumped (call_tree (codes "run_tests") x)) k ∙ call_dumped suite (mode_text m) short (mode_short m)) in
-      call_by s (dumped (call_tree name kwargs)) (canonical (run_tests_call suite (mode_text m))) all none next
+      let all : dumped (call_tree name kwargs) ≡ Ok (canonical (work_call work)) = call_dumps name kwargs work n k ∙ fits in
+      call_by s (dumped (call_tree name kwargs)) (canonical (work_call work)) all none next
 
 pub as_wanted : (wanted : Wanted) (m n : MessageView) (a b : GatewaySink) → wanted ≡ Ok m → wanted ≡ Ok n → PrintsBytes (frame n) a b → PrintsBytes (frame m) a b
 as_wanted wanted m n a b e f p = let same : Ok n ≡ Ok m = sym f ∙ e in let is : n ≡ m = cc same in subst (λ (x : MessageView). PrintsBytes (frame x) a b) is p
@@ -129,16 +137,7 @@ module _ {K : Type 0} where
           subst (λ (o : Option MessageView). WritesOrder o (line_of sunk faults g) (line_of sunk faults k)) (sym (order_is e v is))
           (says_order (dumped v) (say_wanted 1 v (side_of g)) r (line_of sunk faults g) (line_of sunk faults k) (ap (λ (x : _). item_wanted 1 (sent_gives x (dumped v))) can) not (says h))
 
--- ---- keyword arguments
-
-pub kwargs_are : (items : List (List ℕ × Value)) (k l : List ℕ) (v w : Value) (suite : List ℕ) (m : ModeKind) → items ≡ (k, v) ∷ (l, w) ∷ [] → k ≡ chars (codes "suite") → view v ≡ text suite → l ≡ chars (codes "dist") → view w ≡ text (mode_text m) → kwargs_of items ≡ call_kwargs suite m
-kwargs_are items k l v w suite m is a b c d =
-    let first : k ≡ codes "suite" = a ∙ chars_word (codes "suite") refl in
-    let second : l ≡ codes "dist" = c ∙ chars_word (codes "dist") refl in
-    ap kwargs_of is ∙ (ap (λ (x : List ℕ). pair (text x) (view v) (pair (text l) (view w) no_pairs)) first
-    ∙ (ap (λ (x : Tree). pair (text (codes "suite")) x (pair (text l) (view w) no_pairs)) b
-    ∙ (ap (λ (x : List ℕ). pair (text (codes "suite")) (text suite) (pair (text x) (view w) no_pairs)) second
-    ∙ ap (λ (x : Tree). pair (text (codes "suite")) (text suite) (pair (text (codes "dist")) x no_pairs)) d)))
+-- ---- a call that failed
 
 -- a write that failed is no lack of memory
 pub not_memory : (f : GatewayFault) (r : Result (Unit {0}) GatewayFault) → f ≡ SendFault → r ≡ Err f → r ≡ Err OutOfMemory → ⊥

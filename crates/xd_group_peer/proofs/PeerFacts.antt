@@ -6,7 +6,7 @@ use Rattle.std.proofs.Math.Logic.{∥∥₁_map}
 use Rattle.std.proofs.lemmas.List.{map-append}
 use Rattle.std.proofs.lemmas.List.Elements.{filter-append, filter_map-append}
 use Rattle.std.proofs.lemmas.List.Folds.{list_any-append}
-use Rattle.xd_edge.specs.declared.mode.ModeKind.{ModeKind}
+use Rattle.xd_commands.specs.declared.work.Work.{Work}
 use Rattle.xd_edge.specs.Sink.{Sunk}
 use Rattle.xd_frame.specs.Message.{MessageView, frame}
 use Rattle.xd_frame.specs.Writing.{CountSince}
@@ -44,12 +44,12 @@ no_way false t f = cc t
 
 -- ---- what was told
 
-open_link : (suite : List ℕ) (mode : ModeKind) (told : List Entry) (said : List What) → has_left said ≡ false → to_link suite mode told said ≡ call_message suite mode ∷ filter_map order_message told
-open_link suite mode told said e =
-    ap (λ (b : Bool). call_message suite mode ∷ (filter_map order_message told ++ terminate_once b)) e ∙ ap (λ (l : List MessageView). call_message suite mode ∷ l) (append-nil (filter_map order_message told))
+open_link : (work : Work) (told : List Entry) (said : List What) → has_left said ≡ false → to_link work told said ≡ call_message work ∷ filter_map order_message told
+open_link work told said e =
+    ap (λ (b : Bool). call_message work ∷ (filter_map order_message told ++ terminate_once b)) e ∙ ap (λ (l : List MessageView). call_message work ∷ l) (append-nil (filter_map order_message told))
 
-told_open : (suite : List ℕ) (mode : ModeKind) (told all : List Entry) (e : Entry) → all ≡ told ++ e ∷ [] → call_message suite mode ∷ filter_map order_message all ≡ call_message suite mode ∷ (filter_map order_message told ++ filter_map order_message (e ∷ []))
-told_open suite mode told all e is = ap (λ (l : List Entry). call_message suite mode ∷ filter_map order_message l) is ∙ ap (λ (l : List MessageView). call_message suite mode ∷ l) (filter_map-append order_message told (e ∷ []))
+told_open : (work : Work) (told all : List Entry) (e : Entry) → all ≡ told ++ e ∷ [] → call_message work ∷ filter_map order_message all ≡ call_message work ∷ (filter_map order_message told ++ filter_map order_message (e ∷ []))
+told_open work told all e is = ap (λ (l : List Entry). call_message work ∷ filter_map order_message l) is ∙ ap (λ (l : List MessageView). call_message work ∷ l) (filter_map-append order_message told (e ∷ []))
 
 one_order : (e : Entry) (m : MessageView) → order_message e ≡ Some m → filter_map order_message (e ∷ []) ≡ m ∷ []
 one_order e m h = rw h refl
@@ -57,42 +57,42 @@ one_order e m h = rw h refl
 no_order : (e : Entry) → order_message e ≡ None → filter_map order_message (e ∷ []) ≡ []
 no_order e h = rw h refl
 
-told_more : (suite : List ℕ) (mode : ModeKind) (told all : List Entry) (e : Entry) (said : List What) (m : MessageView) → all ≡ told ++ e ∷ [] → has_left said ≡ false → order_message e ≡ Some m → to_link suite mode all said ≡ to_link suite mode told said ++ m ∷ []
-told_more suite mode told all e said m is runs has =
-    open_link suite mode all said runs
-    ∙ (told_open suite mode told all e is
-    ∙ (ap (λ (l : List MessageView). call_message suite mode ∷ (filter_map order_message told ++ l)) (one_order e m has)
-    ∙ ap (λ (l : List MessageView). l ++ m ∷ []) (sym (open_link suite mode told said runs))))
+told_more : (work : Work) (told all : List Entry) (e : Entry) (said : List What) (m : MessageView) → all ≡ told ++ e ∷ [] → has_left said ≡ false → order_message e ≡ Some m → to_link work all said ≡ to_link work told said ++ m ∷ []
+told_more work told all e said m is runs has =
+    open_link work all said runs
+    ∙ (told_open work told all e is
+    ∙ (ap (λ (l : List MessageView). call_message work ∷ (filter_map order_message told ++ l)) (one_order e m has)
+    ∙ ap (λ (l : List MessageView). l ++ m ∷ []) (sym (open_link work told said runs))))
 
-told_same : (suite : List ℕ) (mode : ModeKind) (told all : List Entry) (e : Entry) (said : List What) → all ≡ told ++ e ∷ [] → has_left said ≡ false → order_message e ≡ None → to_link suite mode all said ≡ to_link suite mode told said
-told_same suite mode told all e said is runs has =
-    open_link suite mode all said runs
-    ∙ (told_open suite mode told all e is
-    ∙ (ap (λ (l : List MessageView). call_message suite mode ∷ (filter_map order_message told ++ l)) (no_order e has)
-    ∙ (ap (λ (l : List MessageView). call_message suite mode ∷ l) (append-nil (filter_map order_message told))
-    ∙ sym (open_link suite mode told said runs))))
+told_same : (work : Work) (told all : List Entry) (e : Entry) (said : List What) → all ≡ told ++ e ∷ [] → has_left said ≡ false → order_message e ≡ None → to_link work all said ≡ to_link work told said
+told_same work told all e said is runs has =
+    open_link work all said runs
+    ∙ (told_open work told all e is
+    ∙ (ap (λ (l : List MessageView). call_message work ∷ (filter_map order_message told ++ l)) (no_order e has)
+    ∙ (ap (λ (l : List MessageView). call_message work ∷ l) (append-nil (filter_map order_message told))
+    ∙ sym (open_link work told said runs))))
 
-sent_by_order : (o : Option MessageView) (a b : GatewaySink) (closed : Bool) (suite : List ℕ) (mode : ModeKind) (told all : List Entry) (e : Entry) (said : List What) → all ≡ told ++ e ∷ [] → has_left said ≡ false → order_message e ≡ o
-    → SentAs a.broken closed a.sunk a.faults (to_link suite mode told said) → WritesOrder o a b → SentAs b.broken closed b.sunk b.faults (to_link suite mode all said)
-sent_by_order None a b closed suite mode told all e said is runs has sent w =
-    subst (λ (l : List MessageView). SentAs b.broken closed b.sunk b.faults l) (sym (told_same suite mode told all e said is runs has)) (subst (λ (x : GatewaySink). SentAs x.broken closed x.sunk x.faults (to_link suite mode told said)) (sym w) sent)
-sent_by_order (Some m) a b closed suite mode told all e said is runs has sent w =
-    sent_more a.broken b.broken closed a.sunk b.sunk a.faults b.faults (to_link suite mode told said) (to_link suite mode all said) m (told_more suite mode told all e said m is runs has) sent w.writes w.count w.later
+sent_by_order : (o : Option MessageView) (a b : GatewaySink) (closed : Bool) (work : Work) (told all : List Entry) (e : Entry) (said : List What) → all ≡ told ++ e ∷ [] → has_left said ≡ false → order_message e ≡ o
+    → SentAs a.broken closed a.sunk a.faults (to_link work told said) → WritesOrder o a b → SentAs b.broken closed b.sunk b.faults (to_link work all said)
+sent_by_order None a b closed work told all e said is runs has sent w =
+    subst (λ (l : List MessageView). SentAs b.broken closed b.sunk b.faults l) (sym (told_same work told all e said is runs has)) (subst (λ (x : GatewaySink). SentAs x.broken closed x.sunk x.faults (to_link work told said)) (sym w) sent)
+sent_by_order (Some m) a b closed work told all e said is runs has sent w =
+    sent_more a.broken b.broken closed a.sunk b.sunk a.faults b.faults (to_link work told said) (to_link work all said) m (told_more work told all e said m is runs has) sent w.writes w.count w.later
 
-pub sent_order : (l0 l1 closed : Bool) (a b : GatewaySink) (suite : List ℕ) (mode : ModeKind) (told all : List Entry) (e : Entry) (said : List What) → l0 ≡ a.broken → l1 ≡ b.broken → all ≡ told ++ e ∷ [] → has_left said ≡ false
-    → SentAs l0 closed a.sunk a.faults (to_link suite mode told said) → WritesOrder (order_message e) a b → SentAs l1 closed b.sunk b.faults (to_link suite mode all said)
-sent_order l0 l1 closed a b suite mode told all e said x y is runs sent w =
-    subst (λ (l : Bool). SentAs l closed b.sunk b.faults (to_link suite mode all said)) (sym y)
-    (sent_by_order (order_message e) a b closed suite mode told all e said is runs refl (subst (λ (l : Bool). SentAs l closed a.sunk a.faults (to_link suite mode told said)) x sent) w)
+pub sent_order : (l0 l1 closed : Bool) (a b : GatewaySink) (work : Work) (told all : List Entry) (e : Entry) (said : List What) → l0 ≡ a.broken → l1 ≡ b.broken → all ≡ told ++ e ∷ [] → has_left said ≡ false
+    → SentAs l0 closed a.sunk a.faults (to_link work told said) → WritesOrder (order_message e) a b → SentAs l1 closed b.sunk b.faults (to_link work all said)
+sent_order l0 l1 closed a b work told all e said x y is runs sent w =
+    subst (λ (l : Bool). SentAs l closed b.sunk b.faults (to_link work all said)) (sym y)
+    (sent_by_order (order_message e) a b closed work told all e said is runs refl (subst (λ (l : Bool). SentAs l closed a.sunk a.faults (to_link work told said)) x sent) w)
 
 -- the call of the worker
-pub sent_call : (l1 : Bool) (a b : GatewaySink) (suite : List ℕ) (mode : ModeKind) (told : List Entry) (said : List What) → l1 ≡ b.broken → a.broken ≡ false → IfSome a.sunk (λ s. s ≡ unused) → told ≡ [] → said ≡ [] → PrintsBytes (frame (call_message suite mode)) a b
-    → SentAs l1 false b.sunk b.faults (to_link suite mode told said)
-sent_call l1 a b suite mode told said y z fresh nothing none w =
-    let m = call_message suite mode in
-    let all : to_link suite mode told said ≡ [] ++ m ∷ [] = ap (λ (l : List Entry). to_link suite mode l said) nothing ∙ ap (λ (l : List What). to_link suite mode [] l) none in
-    subst (λ (l : Bool). SentAs l false b.sunk b.faults (to_link suite mode told said)) (sym y)
-    (sent_more a.broken b.broken false a.sunk b.sunk a.faults b.faults [] (to_link suite mode told said) m all (subst (λ (l : Bool). SentAs l false a.sunk a.faults []) (sym z) (sent_none a.sunk a.faults fresh)) w.writes w.count w.later)
+pub sent_call : (l1 : Bool) (a b : GatewaySink) (work : Work) (told : List Entry) (said : List What) → l1 ≡ b.broken → a.broken ≡ false → IfSome a.sunk (λ s. s ≡ unused) → told ≡ [] → said ≡ [] → PrintsBytes (frame (call_message work)) a b
+    → SentAs l1 false b.sunk b.faults (to_link work told said)
+sent_call l1 a b work told said y z fresh nothing none w =
+    let m = call_message work in
+    let all : to_link work told said ≡ [] ++ m ∷ [] = ap (λ (l : List Entry). to_link work l said) nothing ∙ ap (λ (l : List What). to_link work [] l) none in
+    subst (λ (l : Bool). SentAs l false b.sunk b.faults (to_link work told said)) (sym y)
+    (sent_more a.broken b.broken false a.sunk b.sunk a.faults b.faults [] (to_link work told said) m all (subst (λ (l : Bool). SentAs l false a.sunk a.faults []) (sym z) (sent_none a.sunk a.faults fresh)) w.writes w.count w.later)
 
 -- ---- the last news
 
@@ -139,44 +139,44 @@ closed_left said news ended t = ap (λ (b : Bool). b || ended) (left_now said (o
 pub closed_end : (said : List What) (news : Option What) (ended : Bool) → ended ≡ true → true ≡ (has_left (said ++ option_to_list news) || ended)
 closed_end said news ended e = sym (ap (λ (b : Bool). has_left (said ++ option_to_list news) || b) e ∙ or_true (has_left (said ++ option_to_list news)))
 
-same_link : (suite : List ℕ) (mode : ModeKind) (told : List Entry) (said all : List What) → has_left said ≡ has_left all → to_link suite mode told said ≡ to_link suite mode told all
-same_link suite mode told said all e = ap (λ (b : Bool). call_message suite mode ∷ (filter_map order_message told ++ terminate_once b)) e
+same_link : (work : Work) (told : List Entry) (said all : List What) → has_left said ≡ has_left all → to_link work told said ≡ to_link work told all
+same_link work told said all e = ap (λ (b : Bool). call_message work ∷ (filter_map order_message told ++ terminate_once b)) e
 
-link_ended : (suite : List ℕ) (mode : ModeKind) (told : List Entry) (said more : List What) → has_left said ≡ false → has_left more ≡ true → to_link suite mode told (said ++ more) ≡ to_link suite mode told said ++ terminate_message ∷ []
-link_ended suite mode told said more runs t =
-    ap (λ (b : Bool). call_message suite mode ∷ (filter_map order_message told ++ terminate_once b)) (sym (left_now said more t)) ∙ ap (λ (l : List MessageView). l ++ terminate_message ∷ []) (sym (open_link suite mode told said runs))
+link_ended : (work : Work) (told : List Entry) (said more : List What) → has_left said ≡ false → has_left more ≡ true → to_link work told (said ++ more) ≡ to_link work told said ++ terminate_message ∷ []
+link_ended work told said more runs t =
+    ap (λ (b : Bool). call_message work ∷ (filter_map order_message told ++ terminate_once b)) (sym (left_now said more t)) ∙ ap (λ (l : List MessageView). l ++ terminate_message ∷ []) (sym (open_link work told said runs))
 
-pub sent_ended : (l0 l1 closed was : Bool) (a b : GatewaySink) (suite : List ℕ) (mode : ModeKind) (told : List Entry) (said more : List What) → l0 ≡ a.broken → l1 ≡ b.broken → closed ≡ (has_left said || was) → closed ≡ false → has_left more ≡ true
-    → SentAs l0 closed a.sunk a.faults (to_link suite mode told said) → ClosesSink (frame terminate_message) a b → SentAs l1 true b.sunk b.faults (to_link suite mode told (said ++ more))
-sent_ended l0 l1 closed was a b suite mode told said more x y e unshut t sent w =
-    subst (λ (l : Bool). SentAs l true b.sunk b.faults (to_link suite mode told (said ++ more))) (sym y)
-    (sent_last a.broken b.broken closed a.sunk b.sunk a.faults b.faults (to_link suite mode told said) (to_link suite mode told (said ++ more)) terminate_message (link_ended suite mode told said more (neither_first (has_left said) was (sym e ∙ unshut)) t)
-    (subst (λ (l : Bool). SentAs l closed a.sunk a.faults (to_link suite mode told said)) x sent) w.closes w.count w.later)
+pub sent_ended : (l0 l1 closed was : Bool) (a b : GatewaySink) (work : Work) (told : List Entry) (said more : List What) → l0 ≡ a.broken → l1 ≡ b.broken → closed ≡ (has_left said || was) → closed ≡ false → has_left more ≡ true
+    → SentAs l0 closed a.sunk a.faults (to_link work told said) → ClosesSink (frame terminate_message) a b → SentAs l1 true b.sunk b.faults (to_link work told (said ++ more))
+sent_ended l0 l1 closed was a b work told said more x y e unshut t sent w =
+    subst (λ (l : Bool). SentAs l true b.sunk b.faults (to_link work told (said ++ more))) (sym y)
+    (sent_last a.broken b.broken closed a.sunk b.sunk a.faults b.faults (to_link work told said) (to_link work told (said ++ more)) terminate_message (link_ended work told said more (neither_first (has_left said) was (sym e ∙ unshut)) t)
+    (subst (λ (l : Bool). SentAs l closed a.sunk a.faults (to_link work told said)) x sent) w.closes w.count w.later)
 
 -- the sink was closed before
-pub sent_still : (l closed was ended : Bool) (sunk : Option Sunk) (faults : ℕ) (suite : List ℕ) (mode : ModeKind) (told : List Entry) (said : List What) (news : Option What) → StaysEnded was ended news → closed ≡ (has_left said || was) → closed ≡ true
-    → SentAs l closed sunk faults (to_link suite mode told said) → SentAs l closed sunk faults (to_link suite mode told (said ++ option_to_list news))
-sent_still l closed was ended sunk faults suite mode told said news stays is shut sent =
-    subst (λ (m : List MessageView). SentAs l closed sunk faults m) (same_link suite mode told said (said ++ option_to_list news) (by (either (has_left said) was (sym is ∙ shut)))) sent
+pub sent_still : (l closed was ended : Bool) (sunk : Option Sunk) (faults : ℕ) (work : Work) (told : List Entry) (said : List What) (news : Option What) → StaysEnded was ended news → closed ≡ (has_left said || was) → closed ≡ true
+    → SentAs l closed sunk faults (to_link work told said) → SentAs l closed sunk faults (to_link work told (said ++ option_to_list news))
+sent_still l closed was ended sunk faults work told said news stays is shut sent =
+    subst (λ (m : List MessageView). SentAs l closed sunk faults m) (same_link work told said (said ++ option_to_list news) (by (either (has_left said) was (sym is ∙ shut)))) sent
   where
     by : (has_left said ≡ true) ⊎ (was ≡ true) → has_left said ≡ has_left (said ++ option_to_list news)
     by (inl h) = h ∙ sym (left_more said (option_to_list news) h)
     by (inr h) = sym (ap (λ (o : Option What). has_left (said ++ option_to_list o)) ((stays h).0) ∙ ap (λ (x : List What). has_left x) (append-nil said))
 
 -- nothing is said by which the worker leaves
-pub sent_same : (l closed was : Bool) (sunk : Option Sunk) (faults : ℕ) (suite : List ℕ) (mode : ModeKind) (told : List Entry) (said more : List What) → closed ≡ (has_left said || was) → closed ≡ false → has_left more ≡ false
-    → SentAs l closed sunk faults (to_link suite mode told said) → SentAs l closed sunk faults (to_link suite mode told (said ++ more))
-sent_same l closed was sunk faults suite mode told said more is unshut f sent =
+pub sent_same : (l closed was : Bool) (sunk : Option Sunk) (faults : ℕ) (work : Work) (told : List Entry) (said more : List What) → closed ≡ (has_left said || was) → closed ≡ false → has_left more ≡ false
+    → SentAs l closed sunk faults (to_link work told said) → SentAs l closed sunk faults (to_link work told (said ++ more))
+sent_same l closed was sunk faults work told said more is unshut f sent =
     let runs = neither_first (has_left said) was (sym is ∙ unshut) in
-    subst (λ (m : List MessageView). SentAs l closed sunk faults m) (same_link suite mode told said (said ++ more) (runs ∙ sym (left_none said more runs f))) sent
+    subst (λ (m : List MessageView). SentAs l closed sunk faults m) (same_link work told said (said ++ more) (runs ∙ sym (left_none said more runs f))) sent
 
 -- and the sink is closed, since the link ended
-pub sent_over : (l0 l1 closed was : Bool) (a b : GatewaySink) (suite : List ℕ) (mode : ModeKind) (told : List Entry) (said more : List What) → l0 ≡ a.broken → l1 ≡ b.broken → closed ≡ (has_left said || was) → closed ≡ false → has_left more ≡ false
-    → SentAs l0 closed a.sunk a.faults (to_link suite mode told said) → ClosesNow a b → SentAs l1 true b.sunk b.faults (to_link suite mode told (said ++ more))
-sent_over l0 l1 closed was a b suite mode told said more x y is unshut f sent w =
-    let all = sent_same l0 closed was a.sunk a.faults suite mode told said more is unshut f sent in
-    subst (λ (l : Bool). SentAs l true b.sunk b.faults (to_link suite mode told (said ++ more))) (sym y)
-    (sent_shut a.broken b.broken closed a.sunk b.sunk a.faults b.faults (to_link suite mode told (said ++ more)) (subst (λ (l : Bool). SentAs l closed a.sunk a.faults (to_link suite mode told (said ++ more))) x all) w.closed w.count w.later)
+pub sent_over : (l0 l1 closed was : Bool) (a b : GatewaySink) (work : Work) (told : List Entry) (said more : List What) → l0 ≡ a.broken → l1 ≡ b.broken → closed ≡ (has_left said || was) → closed ≡ false → has_left more ≡ false
+    → SentAs l0 closed a.sunk a.faults (to_link work told said) → ClosesNow a b → SentAs l1 true b.sunk b.faults (to_link work told (said ++ more))
+sent_over l0 l1 closed was a b work told said more x y is unshut f sent w =
+    let all = sent_same l0 closed was a.sunk a.faults work told said more is unshut f sent in
+    subst (λ (l : Bool). SentAs l true b.sunk b.faults (to_link work told (said ++ more))) (sym y)
+    (sent_shut a.broken b.broken closed a.sunk b.sunk a.faults b.faults (to_link work told (said ++ more)) (subst (λ (l : Bool). SentAs l closed a.sunk a.faults (to_link work told (said ++ more))) x all) w.closed w.count w.later)
 
 -- ---- a write that failed stays so
 
@@ -369,19 +369,19 @@ pub end_leaves : (was ended lost : Bool) (news : Option What) → StaysEnded was
 end_leaves true ended lost news stays ends over = ap (λ (o : Option What). has_left (option_to_list o)) ((stays refl).0)
 end_leaves false ended lost news stays ends over = ap (λ (o : Option What). has_left (option_to_list o)) ((ends refl over).1)
 
-pub same_still : (suite : List ℕ) (mode : ModeKind) (told : List Entry) (said more : List What) → has_left more ≡ false → to_link suite mode told said ≡ to_link suite mode told (said ++ more)
-same_still suite mode told said more f = same_link suite mode told said (said ++ more) (sym (list_any-append is_farewell said more ∙ (ap (λ (b : Bool). has_left said || b) f ∙ or_false (has_left said))))
+pub same_still : (work : Work) (told : List Entry) (said more : List What) → has_left more ≡ false → to_link work told said ≡ to_link work told (said ++ more)
+same_still work told said more f = same_link work told said (said ++ more) (sym (list_any-append is_farewell said more ∙ (ap (λ (b : Bool). has_left said || b) f ∙ or_false (has_left said))))
 
 -- so it is where an item was heard
-pub still_whole : (was ended lost closed : Bool) (suite : List ℕ) (mode : ModeKind) (told : List Entry) (said late : List What) (news : Option What) (s0 s1 : Option Sunk) (faults : ℕ) → is_nothing late ≡ true → StaysEnded was ended news
-    → EndsNow was ended lost news → (was ≡ true → ∥ EndsWhole (said ++ late) (to_link suite mode told said) s0 ∥₁) → ∥ SentAs lost closed s0 faults (to_link suite mode told said) ∥₁
+pub still_whole : (was ended lost closed : Bool) (work : Work) (told : List Entry) (said late : List What) (news : Option What) (s0 s1 : Option Sunk) (faults : ℕ) → is_nothing late ≡ true → StaysEnded was ended news
+    → EndsNow was ended lost news → (was ≡ true → ∥ EndsWhole (said ++ late) (to_link work told said) s0 ∥₁) → ∥ SentAs lost closed s0 faults (to_link work told said) ∥₁
     → ((m : List MessageView) → has_left (option_to_list news) ≡ false → IfSome s0 (HandedOn m) → IfSome s1 (HandedOn m)) → ended ≡ true
-    → ∥ EndsWhole ((said ++ option_to_list news) ++ late) (to_link suite mode told (said ++ option_to_list news)) s1 ∥₁
-still_whole was ended lost closed suite mode told said late news s0 s1 faults nothing stays ends whole sent more over =
+    → ∥ EndsWhole ((said ++ option_to_list news) ++ late) (to_link work told (said ++ option_to_list news)) s1 ∥₁
+still_whole was ended lost closed work told said late news s0 s1 faults nothing stays ends whole sent more over =
     let left = end_leaves was ended lost news stays ends over in
-    subst (λ (l : List What). ∥ EndsWhole l (to_link suite mode told (said ++ option_to_list news)) s1 ∥₁) (on_time said late (option_to_list news) nothing)
-    (subst (λ (m : List MessageView). ∥ EndsWhole ((said ++ late) ++ option_to_list news) m s1 ∥₁) (same_still suite mode told said (option_to_list news) left)
-    (whole_taken was ended lost closed (said ++ late) news (to_link suite mode told said) s0 s1 faults stays ends whole sent (more (to_link suite mode told said) left) over))
+    subst (λ (l : List What). ∥ EndsWhole l (to_link work told (said ++ option_to_list news)) s1 ∥₁) (on_time said late (option_to_list news) nothing)
+    (subst (λ (m : List MessageView). ∥ EndsWhole ((said ++ late) ++ option_to_list news) m s1 ∥₁) (same_still work told said (option_to_list news) left)
+    (whole_taken was ended lost closed (said ++ late) news (to_link work told said) s0 s1 faults stays ends whole sent (more (to_link work told said) left) over))
 
 -- and where one was heard late
 pub late_whole : (was ended lost closed : Bool) (said late : List What) (news : Option What) (ms : List MessageView) (s0 s1 : Option Sunk) (faults : ℕ) → StaysEnded was ended news

@@ -14,5 +14,5 @@ pub record EndsSo (p : Page) (sunk : Option Sunk) (writes : ℕ) : Type 0 where
   pub heard : List Heard
   pub are : AreHeard heard
   pub tells : TellsEnded heard broken p.taken (p.said ++ p.late)
-  pub sent : SentAs broken true sunk writes (to_link p.suite p.mode p.told p.said)
-  pub handed : EndsWhole (p.said ++ p.late) (to_link p.suite p.mode p.told p.said) sunk
+  pub sent : SentAs broken true sunk writes (to_link p.work p.told p.said)
+  pub handed : EndsWhole (p.said ++ p.late) (to_link p.work p.told p.said) sunk

@@ -1,6 +1,6 @@
 -- The run of one link of a worker, from its start to its end.
 use Rattle.std.specs.Prelude.{◌≡◌, ◌<◌, ◌⊎◌, ℕ, Bool, true, false, List, [], ◌∷◌, ◌++◌, take, length, Option, IfSome, MatchBool}
-use Rattle.xd_edge.specs.declared.mode.ModeKind.{ModeKind}
+use Rattle.xd_commands.specs.declared.work.Work.{Work}
 use Rattle.xd_edge.specs.Sink.{Sunk}
 use Rattle.xd_frame.specs.Message.{MessageView, frames}
 use Rattle.xd_link.specs.Spring.{ReadToEnd, Spring}
@@ -68,11 +68,11 @@ abbrev pub link_of : Spring → Option Sunk → ℕ → Link
 link_of s sunk writes = record { spring = s; sunk = sunk; writes = writes }
 
 -- A link of a worker that gave these news and took these orders.
-pub record LinkRun (suite : List ℕ) (mode : ModeKind) (news : List What) (orders : List Entry) (l : Link) : Type 0 where
+pub record LinkRun (work : Work) (news : List What) (orders : List Entry) (l : Link) : Type 0 where
   pub bytes : List ℕ
   pub why : Cause
   pub given : IfSome l.spring.supply (λ s. s.given ≡ bytes)
   pub heard : HeardAll news bytes why
   pub gone : IsGone why bytes l.spring l.writes
   pub read : ReadToStop bytes l.spring
-  pub sent : IfSome l.sunk (SentSo why (to_link suite mode orders news) l.writes)
+  pub sent : IfSome l.sunk (SentSo why (to_link work orders news) l.writes)

@@ -1,7 +1,7 @@
 -- What the logs of a link say.
 use Rattle.std.specs.Prelude.{◌≡◌, ℕ, Bool, true, false, List, [], ◌∷◌, ◌++◌, Option, Some, None, option_to_list, slice_get, slice_set}
 use Rattle.std.specs.List.{list_any}
-use Rattle.xd_edge.specs.declared.mode.ModeKind.{ModeKind}
+use Rattle.xd_commands.specs.declared.work.Work.{Work}
 use Rattle.xd_journal.specs.declared.entry.Entry.{Entry}
 use Rattle.xd_journal.specs.declared.news.What.{What}
 use Rattle.xd_reader.specs.declared.news.LinkNews.{LinkNews}
@@ -15,25 +15,24 @@ is_nothing (x ∷ xs) = false
 -- what the worker was called with, and what was taken of its link, told to it, said of it, and heard after all was said;
 -- and whether all this is so
 pub record Page : Type 0 where
-  pub suite : List ℕ
-  pub mode : ModeKind
+  pub work : Work
   pub taken : List LinkNews
   pub told : List Entry
   pub said : List What
   pub late : List What
   pub known : Bool
 
--- the page of a worker that was called with this suite and mode: nothing was taken, told or said yet
-abbrev pub first_page : List ℕ → ModeKind → Page
-first_page suite mode = record { suite = suite; mode = mode; taken = []; told = []; said = []; late = []; known = true }
+-- the page of a worker that was called for this work: nothing was taken, told or said yet
+abbrev pub first_page : Work → Page
+first_page work = record { work = work; taken = []; told = []; said = []; late = []; known = true }
 
 -- the page after one more order to its worker
 abbrev pub told_page : Entry → Page → Page
-told_page e p = record { suite = p.suite; mode = p.mode; taken = p.taken; told = p.told ++ e ∷ []; said = p.said; late = p.late; known = true }
+told_page e p = record { work = p.work; taken = p.taken; told = p.told ++ e ∷ []; said = p.said; late = p.late; known = true }
 
 -- the page after one more item of its link, and the news that the item is, if any
 abbrev pub heard_page : LinkNews → Option What → Page → Page
-heard_page item what p = record { suite = p.suite; mode = p.mode; taken = p.taken ++ item ∷ []; told = p.told; said = p.said ++ option_to_list what; late = p.late; known = true }
+heard_page item what p = record { work = p.work; taken = p.taken ++ item ∷ []; told = p.told; said = p.said ++ option_to_list what; late = p.late; known = true }
 
 -- what was taken of the link, where it has a page
 abbrev pub taken_of_link : Option Page → Option (List LinkNews)
@@ -68,6 +67,6 @@ pub record IsToldAt (pages : List (Option Page)) (k : ℕ) : Type 0 where
   pub going : list_any is_end page.said ≡ false
 
 -- the page of a link that was opened, where its reader was started
-abbrev pub page_opened : List ℕ → ModeKind → Bool → Option Page
-page_opened suite mode true = Some (first_page suite mode)
-page_opened suite mode false = None
+abbrev pub page_opened : Work → Bool → Option Page
+page_opened work true = Some (first_page work)
+page_opened work false = None

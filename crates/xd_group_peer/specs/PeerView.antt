@@ -7,7 +7,7 @@ use Rattle.xd_group_peer.specs.declared.peer.Peer.{Peer}
 module _ {N : Type 0} {g : _} where
   -- the page of a peer, by what its logs noted
   abbrev pub page_by : Peer N g → Page
-  page_by p = record { suite = p.suite.value; mode = p.mode; taken = noted p.taken; told = noted p.told; said = noted p.said; late = noted p.late; known = p.is_known }
+  page_by p = record { work = p.work.value; taken = noted p.taken; told = noted p.told; said = noted p.said; late = noted p.late; known = p.is_known }
 
   -- the page of the peer, where there is one
   abbrev pub page_of : Option (Peer N g) → Option Page

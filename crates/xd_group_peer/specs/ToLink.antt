@@ -1,9 +1,8 @@
 -- What a controller writes to the link of a worker. execnet's gateway.py writes the call, and pytest-xdist's
 -- workermanage.py the orders.
-use Rattle.std.specs.Prelude.{ℕ, Bool, true, false, List, [], ◌∷◌, ◌++◌, Option, Some, None, option_and_then, Result, Ok, Err, codes}
+use Rattle.std.specs.Prelude.{◌≡◌, ℕ, Bool, true, false, List, [], ◌∷◌, ◌++◌, Option, Some, None, option_and_then, Result, Ok, Err}
 use Rattle.std.specs.List.{list_any, filter_map}
-use Rattle.xd_edge.specs.declared.mode.ModeKind.{ModeKind}
-use Rattle.xd_value.specs.Tree.{Pairs, text, pair, no_pairs}
+use Rattle.xd_value.specs.Tree.{Tree, Pairs}
 use Rattle.xd_value.specs.Canonical.{canonical, dumped}
 use Rattle.xd_value.specs.declared.writing.DumpFault.{DumpFault}
 use Rattle.xd_frame.specs.Message.{MessageView}
@@ -11,17 +10,26 @@ use Rattle.xd_journal.specs.declared.entry.Entry.{Entry}
 use Rattle.xd_journal.specs.declared.news.What.{What}
 use Rattle.xd_journal.specs.declared.news.What.TheVariants.{Finished, Closed}
 use Rattle.xd_commands.specs.Orders.{order_of, order_tree}
-use Rattle.xd_commands.specs.Limits.{run_tests_call}
+use Rattle.xd_commands.specs.Limits.{run_tests_call, run_tests_kwargs}
+use Rattle.xd_commands.specs.declared.work.Work.{Work}
 use Rattle.xd_gateway.specs.Calls.{exec_message, item_message, terminate_message}
 use Rattle.xd_report_phrases.specs.Names.{mode_text}
 
--- the keyword arguments of `run_tests`: the path of the suite, and the mode's word
-abbrev pub call_kwargs : List ℕ → ModeKind → Pairs
-call_kwargs suite mode = pair (text (codes "suite")) (text suite) (pair (text (codes "dist")) (text (mode_text mode)) no_pairs)
+-- the keyword arguments of `run_tests`: the path of the suite, the mode's word, and the pick, where there is one
+abbrev pub call_kwargs : Work → Pairs
+call_kwargs work = run_tests_kwargs work.suite (mode_text work.mode) work.pick
+
+-- the call of `run_tests`
+abbrev pub work_call : Work → Tree
+work_call work = run_tests_call work.suite (mode_text work.mode) work.pick
+
+-- the call has a payload: it has not too many ids in its pick
+abbrev pub CallFits : Work → Type 0
+CallFits work = dumped (work_call work) ≡ Ok (canonical (work_call work))
 
 -- the call of `run_tests`, on channel 1
-abbrev pub call_message : List ℕ → ModeKind → MessageView
-call_message suite mode = exec_message 1 (canonical (run_tests_call suite (mode_text mode)))
+abbrev pub call_message : Work → MessageView
+call_message work = exec_message 1 (canonical (work_call work))
 
 -- a value's message on channel 1, where it has a payload; each order of a run has one
 abbrev pub payload_message : Result (List ℕ) DumpFault → Option MessageView
@@ -48,5 +56,5 @@ terminate_once true = terminate_message ∷ []
 terminate_once false = []
 
 -- the messages to a worker that took these orders and gave these news
-abbrev pub to_link : List ℕ → ModeKind → List Entry → List What → List MessageView
-to_link suite mode orders news = call_message suite mode ∷ (filter_map order_message orders ++ terminate_once (has_left news))
+abbrev pub to_link : Work → List Entry → List What → List MessageView
+to_link work orders news = call_message work ∷ (filter_map order_message orders ++ terminate_once (has_left news))

@@ -5,4 +5,5 @@
 mod calling;
 mod peer;
 
+pub use calling::fits_payload;
 pub use peer::{HeardNews, Peer};

@@ -1,8 +1,6 @@
 // One link: its gateway, and what was taken of it, told to it and said of it.
 ghost use Rattle.std.specs.Prelude.{◌≡◌, ◌≤◌, ◌∷◌, ◌++◌, [], ℕ, ◌||◌, List, Bool, true, false, None, IfOk, OnOk, IfSome, IsSome, length, option_to_list};
 ghost use Rattle.std.specs.List.{list_any};
-ghost use Rattle.std.specs.Str.{encode_utf8_all};
-ghost use Rattle.xd_edge.specs.declared.mode.ModeKind.{ModeKind};
 ghost use Rattle.xd_journal.specs.declared.entry.Entry.{Entry};
 ghost use Rattle.xd_journal.specs.declared.news.What.{What};
 ghost use Rattle.xd_journal.specs.declared.news.What.TheVariants.{Gone};
@@ -12,17 +10,18 @@ ghost use Rattle.xd_reader.specs.declared.news.LinkNews.{LinkNews};
 ghost use Rattle.xd_trace.specs.Noted.{noted};
 ghost use Rattle.xd_journal.specs.Said.{is_breach, is_end};
 ghost use Rattle.xd_commands.specs.Orders.{order_of};
+ghost use Rattle.xd_commands.specs.declared.work.Work.{Work};
 ghost use Rattle.xd_gateway.specs.View.{is_broken, sink_of};
 ghost use Rattle.xd_group_peer.specs.Heard.{EndsNow, HeardSo, StaysEnded, cause_by, plain_cause, says_send_fault};
 ghost use Rattle.xd_group_peer.specs.Pages.{is_nothing};
 ghost use Rattle.xd_group_peer.specs.Sent.{EndsWhole, HandedOn, SentAs};
-ghost use Rattle.xd_group_peer.specs.ToLink.{has_left, to_link};
+ghost use Rattle.xd_group_peer.specs.ToLink.{CallFits, has_left, to_link};
 
 use crate::calling::{call_worker, close_link, end_worker, write_order};
 use std::alloc::Global;
 use std::snapshot::Snapshot;
-use xd_commands::order_value;
-use xd_edge::{ModeKind, OutOfMemory, Sink, Text};
+use xd_commands::{Work, order_value};
+use xd_edge::{OutOfMemory, Sink};
 use xd_factory::Parity;
 use xd_gateway::Gateway;
 use xd_journal::{Cause, Entry, What};
@@ -34,8 +33,7 @@ use xd_trace::Trace;
 #[derive(Drop)]
 pub struct Peer<N: Sink + Drop> {
     pub gateway: Gateway<N>,
-    pub suite: Snapshot<Text>,
-    pub mode: ModeKind,
+    pub work: Snapshot<Work>,
     pub taken: Trace<LinkNews>,
     pub told: Trace<Entry>,
     pub said: Trace<What>,
@@ -54,12 +52,12 @@ pub struct Peer<N: Sink + Drop> {
         ∥ HeardSo gateway is_ended is_lost (noted taken) (noted said ++ noted late) ∥₁ },
     ghost sent: { is_known ≡ true →
         ∥ SentAs is_lost is_closed (N.sunk (sink_of gateway)) (N.faults (sink_of gateway))
-        (to_link suite.value mode (noted told) (noted said)) ∥₁ },
+        (to_link work.value (noted told) (noted said)) ∥₁ },
     ghost faults: { is_known ≡ true → list_any says_send_fault (noted said) ≡ true →
         is_lost ≡ true },
     ghost whole: { is_known ≡ true → is_ended ≡ true
         → ∥ EndsWhole (noted said ++ noted late)
-        (to_link suite.value mode (noted told) (noted said)) (N.sunk (sink_of gateway)) ∥₁ },
+        (to_link work.value (noted told) (noted said)) (N.sunk (sink_of gateway)) ∥₁ },
 }
 
 #[derive(Drop)]
@@ -174,14 +172,14 @@ fn end_after<N: Sink + Drop>(
         is_closed ≡ (has_left said || was) →
         result.is_closed ≡ (has_left (said ++ option_to_list news.now) || is_ended) }
     ensures lost { is_lost ≡ is_broken gateway.old → result.is_lost ≡ is_broken gateway.new }
-    ensures sent { (suite : List ℕ) (mode : ModeKind) (told : List Entry) (said : List What)
+    ensures sent { (work : Work) (told : List Entry) (said : List What)
         (was : Bool) → StaysEnded was is_ended news.now → is_lost ≡ is_broken gateway.old →
         is_closed ≡ (has_left said || was) →
         SentAs is_lost is_closed (N.sunk (sink_of gateway.old)) (N.faults (sink_of gateway.old))
-        (to_link suite mode told said)
+        (to_link work told said)
         → SentAs result.is_lost result.is_closed (N.sunk (sink_of gateway.new))
         (N.faults (sink_of gateway.new))
-        (to_link suite mode told (said ++ option_to_list news.now)) }
+        (to_link work told (said ++ option_to_list news.now)) }
     ensures keeps { is_lost ≡ is_broken gateway.old → is_lost ≡ true → result.is_lost ≡ true }
     ensures whole { (messages : List MessageView) → has_left (option_to_list news.now) ≡ false
         → IfSome (N.sunk (sink_of gateway.old)) (HandedOn messages)
@@ -222,13 +220,11 @@ impl<N: Sink + Drop> Peer<N> {
     pub fn begin(
         alloc: Global,
         sink: N,
-        suite: &Text,
-        mode: ModeKind,
+        work: &Work,
     ) -> Result<Peer<N>, OutOfMemory>
         requires nothing_taken { IfSome (N.sunk sink) (λ s. s ≡ unused) }
-        requires short { length (encode_utf8_all suite.now) ≤ 65536 }
-        ensures suite { IfOk result (λ p. p.suite.value ≡ suite.now) }
-        ensures mode { IfOk result (λ p. p.mode ≡ mode) }
+        requires fits { CallFits work.now }
+        ensures work { IfOk result (λ p. p.work.value ≡ work.now) }
         ensures taken { IfOk result (λ p. noted p.taken ≡ []) }
         ensures told { IfOk result (λ p. noted p.told ≡ []) }
         ensures said { IfOk result (λ p. noted p.said ≡ []) }
@@ -240,11 +236,10 @@ impl<N: Sink + Drop> Peer<N> {
         let said = Trace::new(alloc)?;
         let late = Trace::new(alloc)?;
         let mut gateway = Gateway::new(alloc, Parity::Odd, sink);
-        let is_lost = call_worker(alloc, &mut gateway, suite, mode)?;
+        let is_lost = call_worker(alloc, &mut gateway, work)?;
         Ok(Peer {
             gateway,
-            suite: Snapshot::of(suite),
-            mode,
+            work: Snapshot::of(work),
             taken,
             told,
             said,
@@ -262,7 +257,7 @@ impl<N: Sink + Drop> Peer<N> {
         requires known { self.old.is_known ≡ true }
         requires on_time { is_nothing (noted self.old.late) ≡ true }
         requires going { list_any is_end (noted self.old.said) ≡ false }
-        ensures same { (self.new.suite ≡ self.old.suite) × (self.new.mode ≡ self.old.mode)
+        ensures same { (self.new.work ≡ self.old.work)
             × (noted self.new.taken ≡ noted self.old.taken) }
         ensures told { OnOk result (noted self.new.told ≡ noted self.old.told ++ order.now ∷ []) }
         ensures said { (noted self.new.said ≡ noted self.old.said)
@@ -284,7 +279,7 @@ impl<N: Sink + Drop> Peer<N> {
     pub fn hear(&mut self, item: LinkNews) -> Result<HeardNews, OutOfMemory>
         requires known { self.old.is_known ≡ true }
         requires on_time { is_nothing (noted self.old.late) ≡ true }
-        ensures same { (self.new.suite ≡ self.old.suite) × (self.new.mode ≡ self.old.mode)
+        ensures same { (self.new.work ≡ self.old.work)
             × (noted self.new.told ≡ noted self.old.told) }
         ensures taken { OnOk result (noted self.new.taken ≡ noted self.old.taken ++ item ∷ []) }
         ensures said { IfOk result (λ r.
@@ -324,7 +319,7 @@ impl<N: Sink + Drop> Peer<N> {
     /// Takes an item of the link when nothing is said or written any more.
     pub fn hear_late(&mut self, item: LinkNews) -> Result<(), OutOfMemory>
         requires known { self.old.is_known ≡ true }
-        ensures same { (self.new.suite ≡ self.old.suite) × (self.new.mode ≡ self.old.mode)
+        ensures same { (self.new.work ≡ self.old.work)
             × (noted self.new.told ≡ noted self.old.told) }
         ensures taken { OnOk result (noted self.new.taken ≡ noted self.old.taken ++ item ∷ []) }
         ensures said { noted self.new.said ≡ noted self.old.said }

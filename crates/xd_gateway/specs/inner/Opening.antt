@@ -1,9 +1,7 @@
 -- What the steps of a call answer.
-use Rattle.std.specs.Prelude.{◌≡◌, ℕ, List, Option, Some, Result, Ok, Err}
-use Rattle.xd_value.specs.declared.writing.DumpFault.{DumpFault}
+use Rattle.std.specs.Prelude.{◌≡◌, Option, Some, Result, Ok, Err}
 use Rattle.xd_factory.specs.declared.faults.OpenFault.{OpenFault}
 use Rattle.xd_factory.specs.declared.faults.OpenFault.TheVariants as open_fault
-use Rattle.xd_factory.specs.declared.faults.SendFault.TheVariants as send_fault
 use Rattle.xd_frame.specs.Message.{MessageView}
 use Rattle.xd_gateway.specs.declared.fault.GatewayFault.{GatewayFault}
 use Rattle.xd_gateway.specs.declared.fault.GatewayFault.TheVariants.{SendFault, Channel, Opening, OutOfMemory}
@@ -16,17 +14,6 @@ IsWanted wanted (Err (Channel f)) = wanted ≡ Err (Channel f)
 IsWanted wanted (Err (Opening f)) = wanted ≡ Err (Opening f)
 IsWanted wanted (Err SendFault) = ⊥
 IsWanted wanted (Err OutOfMemory) = Unit {0}
-
--- the payload that is wanted, or why there is none, or memory ran out
-abbrev pub IsPayloadOf : Result (List ℕ) DumpFault → Result (List ℕ) GatewayFault → Type 0
-IsPayloadOf wanted (Ok b) = wanted ≡ Ok b
-IsPayloadOf wanted (Err (Channel (send_fault.Dump f))) = wanted ≡ Err f
-IsPayloadOf wanted (Err (Channel send_fault.Unknown)) = ⊥
-IsPayloadOf wanted (Err (Channel send_fault.SendClosed)) = ⊥
-IsPayloadOf wanted (Err (Channel send_fault.OutOfMemory)) = ⊥
-IsPayloadOf wanted (Err (Opening f)) = ⊥
-IsPayloadOf wanted (Err SendFault) = ⊥
-IsPayloadOf wanted (Err OutOfMemory) = Unit {0}
 
 -- what a refusal to open a channel is for the gateway
 abbrev pub opening_fault : OpenFault → GatewayFault

@@ -7,14 +7,14 @@ pub returns-then-is_closed-clause-closed : goal.returns-then-is_closed-clause-cl
 returns-then-is_closed-clause-closed g c said was stays is = closed_still said c.args.news.now was c.args.is_ended c.args.is_closed stays is c.if-is_closed.true
 
 pub returns-then-is_closed-clause-sent : goal.returns-then-is_closed-clause-sent
-returns-then-is_closed-clause-sent g c suite mode told said was stays lost is s = sent_still _ c.args.is_closed was c.args.is_ended _ _ suite mode told said c.args.news.now stays is c.if-is_closed.true s
+returns-then-is_closed-clause-sent g c work told said was stays lost is s = sent_still _ c.args.is_closed was c.args.is_ended _ _ work told said c.args.news.now stays is c.if-is_closed.true s
 
 pub returns-then-is_farewell-clause-closed : goal.returns-then-is_farewell-clause-closed
 returns-then-is_farewell-clause-closed g c said was stays is = closed_left said c.args.news.now c.args.is_ended (sym c.is_farewell.ensures ∙ c.if-is_farewell.true)
 
 pub returns-then-is_farewell-clause-sent : goal.returns-then-is_farewell-clause-sent
-returns-then-is_farewell-clause-sent g c suite mode told said was stays lost is s =
-    sent_ended _ _ _ was (line_of g.N.Sink.sunk g.N.Sink.faults c.args.gateway.now) (line_of g.N.Sink.sunk g.N.Sink.faults c.end_worker-is_lost.new.gateway) suite mode told said _ lost c.end_worker-is_lost.ensures.lost is c.if-is_closed.false (sym c.is_farewell.ensures ∙ c.if-is_farewell.true) s c.end_worker-is_lost.ensures.closes
+returns-then-is_farewell-clause-sent g c work told said was stays lost is s =
+    sent_ended _ _ _ was (line_of g.N.Sink.sunk g.N.Sink.faults c.args.gateway.now) (line_of g.N.Sink.sunk g.N.Sink.faults c.end_worker-is_lost.new.gateway) work told said _ lost c.end_worker-is_lost.ensures.lost is c.if-is_closed.false (sym c.is_farewell.ensures ∙ c.if-is_farewell.true) s c.end_worker-is_lost.ensures.closes
 
 pub returns-then-is_farewell-clause-heard : goal.returns-then-is_farewell-clause-heard
 returns-then-is_farewell-clause-heard g c ended taken said l h =
@@ -28,8 +28,8 @@ pub returns-then-is_ended-clause-closed : goal.returns-then-is_ended-clause-clos
 returns-then-is_ended-clause-closed g c said was stays is = closed_end said c.args.news.now c.args.is_ended c.if-is_ended.true
 
 pub returns-then-is_ended-clause-sent : goal.returns-then-is_ended-clause-sent
-returns-then-is_ended-clause-sent g c suite mode told said was stays lost is s =
-    sent_over _ _ _ was (line_of g.N.Sink.sunk g.N.Sink.faults c.args.gateway.now) (line_of g.N.Sink.sunk g.N.Sink.faults c.close_link-is_lost.new.gateway) suite mode told said _ lost c.close_link-is_lost.ensures.lost is c.if-is_closed.false (sym c.is_farewell.ensures ∙ c.if-is_farewell.false) s c.close_link-is_lost.ensures.closes
+returns-then-is_ended-clause-sent g c work told said was stays lost is s =
+    sent_over _ _ _ was (line_of g.N.Sink.sunk g.N.Sink.faults c.args.gateway.now) (line_of g.N.Sink.sunk g.N.Sink.faults c.close_link-is_lost.new.gateway) work told said _ lost c.close_link-is_lost.ensures.lost is c.if-is_closed.false (sym c.is_farewell.ensures ∙ c.if-is_farewell.false) s c.close_link-is_lost.ensures.closes
 
 pub returns-then-is_ended-clause-heard : goal.returns-then-is_ended-clause-heard
 returns-then-is_ended-clause-heard g c ended taken said l h =
@@ -43,7 +43,7 @@ pub returns-clause-closed : goal.returns-clause-closed
 returns-clause-closed g c said was stays is = closed_open said c.args.news.now was c.args.is_ended c.args.is_closed is c.if-is_closed.false (sym c.is_farewell.ensures ∙ c.if-is_farewell.false) c.if-is_ended.false
 
 pub returns-clause-sent : goal.returns-clause-sent
-returns-clause-sent g c suite mode told said was stays lost is s = sent_same _ c.args.is_closed was _ _ suite mode told said _ is c.if-is_closed.false (sym c.is_farewell.ensures ∙ c.if-is_farewell.false) s
+returns-clause-sent g c work told said was stays lost is s = sent_same _ c.args.is_closed was _ _ work told said _ is c.if-is_closed.false (sym c.is_farewell.ensures ∙ c.if-is_farewell.false) s
 
 pub returns-then-is_farewell-clause-whole : goal.returns-then-is_farewell-clause-whole
 returns-then-is_farewell-clause-whole g c m left h = absurd (no_way _ (sym c.is_farewell.ensures ∙ c.if-is_farewell.true) left)

@@ -26,7 +26,7 @@ invariant_of-self-2 g c =
           (subst (λ (l : List What). HeardSo over.new.gateway c.in_ok-news.field-0.is_ended over.result.is_lost (noted was.taken ++ c.args.item ∷ []) l) (append_assoc said (noted was.late) (option_to_list c.in_ok-news.field-0.news))
           (over.ensures.heard _ _ _ still (c.in_ok-news.ensures.hears (noted was.taken) (said ++ noted was.late) h))));
       sent = λ e. ∥∥₁_map (was.sent known)
-          (λ s. subst (λ (l : List What). SentAs over.result.is_lost over.result.is_closed (g.N.Sink.sunk (sink_of over.new.gateway)) (g.N.Sink.faults (sink_of over.new.gateway)) (to_link was.suite.value was.mode (noted was.told) l)) (append-nil said)
+          (λ s. subst (λ (l : List What). SentAs over.result.is_lost over.result.is_closed (g.N.Sink.sunk (sink_of over.new.gateway)) (g.N.Sink.faults (sink_of over.new.gateway)) (to_link was.work.value (noted was.told) l)) (append-nil said)
           (over.ensures.sent _ _ (noted was.told) said was.is_ended stays still (was.closed known) (rw (c.in_ok-news.ensures.sink) s)));
       faults = λ e h. over.ensures.keeps still (was.faults known h);
       whole = λ e ended. rw (c.note_heard.ensures) (late_whole was.is_ended c.in_ok-news.field-0.is_ended was.is_lost was.is_closed said (noted was.late) c.in_ok-news.field-0.news _ _ _ _ c.in_ok-news.ensures.past c.in_ok-news.ensures.ends (was.whole known) (was.sent known)
