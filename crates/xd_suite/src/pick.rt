@@ -1,6 +1,5 @@
 // The tests of a suite that ids name.
 ghost use Rattle.std.specs.Prelude.{◌≡◌, ◌≢◌, ◌||◌, ◌++◌, ℕ, List, [], not, filter, if◌then◌else◌, IfOk};
-ghost use Rattle.std.specs.List.{list_any};
 ghost use Rattle.xd_suite.specs.Picked.{is_named, lists_text, picked};
 ghost use Rattle.xd_suite.specs.Tests.{group_id};
 ghost use Rattle.xd_suite.specs.inner.TextSet.{set_has};
