@@ -1,7 +1,9 @@
+pub mod Apart
 pub mod Items
 pub mod Keys
 pub mod NewIds
 pub mod OneAnswer
+pub mod Picked
 pub mod Runs
 pub mod SeenTexts
 pub mod Texts

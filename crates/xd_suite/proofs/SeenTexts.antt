@@ -56,6 +56,14 @@ module _ (texts : List (List ℕ)) (i : ℕ) (d : List ℕ) (within : i < length
       ap (repeat_from i (take i texts)) here
       ∙ ap (λ (l : List (List ℕ)). if list_any (bytes_eq text) (take i texts) then Some i else repeat_from (i + 1) l (drop (i + 1) texts)) (sym one_more)
 
+  -- the set has one text more
+  pub known_more : (old new : TextSet) (key : Bor (List ℕ)) → key.now ≡ encode_utf8_all text → ((cs : List ℕ) → set_has old cs ≡ list_any (bytes_eq cs) (take i texts)) → Updates text_order old new key true → (cs : List ℕ) → set_has new cs ≡ list_any (bytes_eq cs) (take (i + 1) texts)
+  known_more old new key is before updates cs =
+      set_has-insert old new text cs key is updates ∙ ap (λ (b : Bool). bytes_eq text cs || b) (before cs)
+      ∙ or-last (bytes_eq text cs) (list_any (bytes_eq cs) (take i texts))
+      ∙ ap (λ (b : Bool). list_any (bytes_eq cs) (take i texts) || (b || false)) (bytes_eq-sym text cs)
+      ∙ sym (ap (list_any (bytes_eq cs)) one_more ∙ list_any-append (bytes_eq cs) (take i texts) (text ∷ []))
+
   module _ (seen : TextSet) (key : Bor (List ℕ)) (is : key.now ≡ encode_utf8_all text) (before : LookedThrough texts i seen) where
     stood : contains text_order seen key ≡ list_any (bytes_eq text) (take i texts)
     stood = ap (λ (l : List ℕ). contains text_order seen (to_text l)) is ∙ before.known text
@@ -65,10 +73,7 @@ module _ (texts : List (List ℕ)) (i : ℕ) (d : List ℕ) (within : i < length
         let is_new : list_any (bytes_eq text) (take i texts) ≡ false = sym stood ∙ was-not (contains text_order seen key) fresh in
         record {
           rest = before.rest ∙ next_text ∙ ap (λ (b : Bool). if b then Some i else repeat_from (i + 1) (take (i + 1) texts) (drop (i + 1) texts)) is_new;
-          known = λ cs. set_has-insert seen new text cs key is updates ∙ ap (λ (b : Bool). bytes_eq text cs || b) (before.known cs)
-              ∙ or-last (bytes_eq text cs) (list_any (bytes_eq cs) (take i texts))
-              ∙ ap (λ (b : Bool). list_any (bytes_eq cs) (take i texts) || (b || false)) (bytes_eq-sym text cs)
-              ∙ sym (ap (list_any (bytes_eq cs)) one_more ∙ list_any-append (bytes_eq cs) (take i texts) (text ∷ []));
+          known = known_more seen new key is before.known updates;
         }
 
     pub found : false ≡ not (contains text_order seen key) → repeat_of texts ≡ Some i

@@ -1,6 +1,5 @@
 // The tests of a suite that ids name.
 ghost use Rattle.std.specs.Prelude.{◌≡◌, ◌≢◌, ◌||◌, ◌++◌, ℕ, List, [], not, filter, if◌then◌else◌, IfOk};
-ghost use Rattle.std.specs.List.{list_any};
 ghost use Rattle.xd_suite.specs.Picked.{is_named, lists_text, picked};
 ghost use Rattle.xd_suite.specs.Tests.{group_id};
 ghost use Rattle.xd_suite.specs.inner.TextSet.{set_has};
@@ -37,11 +36,11 @@ fn divide(alloc: Global, tests: Vec<Test>, ids: &[Text]) -> Result<Divided, OutO
     ensures others { IfOk result (λ divided.
         divided.others.items ≡ filter (λ t. not (is_named ids.now t)) tests.items) }
 {
-    let ids = set_of(alloc, ids)?;
+    let set = set_of(alloc, ids)?;
     let mut named = Vec::new(alloc);
     let mut others = Vec::new(alloc);
     for test in tests {
-        if is_named(alloc, &test, &ids)? {
+        if is_named(alloc, &test, &set)? {
             named.push(test)?;
         } else {
             others.push(test)?;
@@ -77,17 +76,17 @@ fn set_of<'a>(alloc: Global, texts: &'a [Text]) -> Result<BTreeSet<&'a str>, Out
     Ok(set)
 }
 
-fn is_named(alloc: Global, test: &Test, ids: &BTreeSet<&str>) -> Result<bool, OutOfMemory>
+fn is_named(alloc: Global, test: &Test, set: &BTreeSet<&str>) -> Result<bool, OutOfMemory>
     ensures { IfOk result (λ named.
-        named ≡ (set_has ids.now test.now.id || set_has ids.now (group_id test.now))) }
+        named ≡ (set_has set.now test.now.id || set_has set.now (group_id test.now))) }
 {
-    if ids.contains(test.id.as_str()) {
+    if set.contains(test.id.as_str()) {
         return Ok(true);
     }
     match &test.group {
         Some(group) => {
             let id = join(alloc, &test.id, group)?;
-            Ok(ids.contains(id.as_str()))
+            Ok(set.contains(id.as_str()))
         }
         None => Ok(false),
     }

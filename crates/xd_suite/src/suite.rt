@@ -79,7 +79,8 @@ impl Suite {
     }
 
     /// The tests that these ids name, in the order of the suite, and then, where `rest`, the others in that order; the
-    /// whole suite where none of its tests is named. An id names a test whose id it is, alone or with `@` and its group.
+    /// whole suite where none of its tests is named. An id names a test whose id it is, alone or with `@` and its
+    /// group.
     pub fn pick(self, alloc: Global, ids: &[Text], rest: bool) -> Result<Suite, OutOfMemory>
         ensures { IfOk result (λ s. s ≡ picked ids.now rest self) }
     {
