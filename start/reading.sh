@@ -79,7 +79,7 @@ read_option() {
     option=$1
     case "$kind,$1" in
         run,-d | run,-x | run,--no-loadscope-reorder | run,-n | run,--dist | run,--tx | run,--maxfail) ;;
-        run,--max-worker-restart | run,--maxschedchunk | run,--crash-retries | run,--journal) ;;
+        run,--max-worker-restart | run,--maxschedchunk | run,--crash-retries | run,--journal | run,--lf | run,--ff) ;;
         *,-h | *,--help | *,--version) fault="$1 stands alone" ;;
         *) fault="$word is no option" ;;
     esac
@@ -104,7 +104,7 @@ read_value() {
         --max-worker-restart) read_number "$@" 0 1000 ;;
         --maxschedchunk) read_number "$@" 1 1000000 ;;
         --crash-retries) read_number "$@" 0 100 ;;
-        --journal) read_path "$2" ;;
+        --journal | --lf | --ff) read_path "$2" ;;
         --tx) [ -n "$bad_spec" ] || read_places "$2" || bad_spec="--tx $2 is no SPEC" ;;
         --dist)
             case "$2" in
