@@ -217,11 +217,7 @@ pub struct HeardNews {
 
 impl<N: Sink + Drop> Peer<N> {
     /// A link that the worker was called on.
-    pub fn begin(
-        alloc: Global,
-        sink: N,
-        work: &Work,
-    ) -> Result<Peer<N>, OutOfMemory>
+    pub fn begin(alloc: Global, sink: N, work: &Work) -> Result<Peer<N>, OutOfMemory>
         requires nothing_taken { IfSome (N.sunk sink) (λ s. s ≡ unused) }
         requires fits { CallFits work.now }
         ensures work { IfOk result (λ p. p.work.value ≡ work.now) }
