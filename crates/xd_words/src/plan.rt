@@ -9,8 +9,9 @@ ghost use Rattle.xd_spec.specs.Spec.{address_in};
 ghost use Rattle.xd_spec.specs.Tx.{tx_of};
 ghost use Rattle.xd_words.specs.Asked.{rows_in};
 ghost use Rattle.xd_words.specs.Command.{file_app, main_app, socketserver_app, worker_app};
-ghost use Rattle.xd_words.specs.Words.{Fits, exclusion, named_file, keeps_of, last_of, main_plan, maxfail_of, places_of, plan_by, plan_for};
-ghost use Rattle.xd_words.specs.Words.{plan_of, plan_of_utf8, plan_with_places, replay_of, serve_at, settings_of, socketserver_plan, wire_of, worker_plan};
+ghost use Rattle.xd_words.specs.Words.{Fits, exclusion, named_file, keeps_of, last_of, main_plan, maxfail_of};
+ghost use Rattle.xd_words.specs.Words.{places_of, plan_by, plan_for, plan_of, plan_of_utf8, plan_with_places};
+ghost use Rattle.xd_words.specs.Words.{replay_of, serve_at, settings_of, socketserver_plan, wire_of, worker_plan};
 
 use crate::asked::{Asked, asked_of, has_paths, is_path, is_well_formed, path_of};
 use crate::matches::{file_matches, main_matches, socketserver_matches, value, worker_matches};
