@@ -3,7 +3,7 @@ use Rattle.std.proofs.Common.{◌≡◌, ℕ, zero, suc, List, [], ◌∷◌, ma
 use Rattle.std.specs.Prelude.{◌&&◌, is_some, slice_get}
 use Rattle.std.specs.List.{list_all, list_any}
 use Rattle.std.proofs.Math.Logic.{∥∥₁_elim, ∥∥₁_map}
-use Rattle.xd_edge.specs.declared.mode.ModeKind.{ModeKind}
+use Rattle.xd_commands.specs.declared.work.Work.{Work}
 use Rattle.xd_journal.specs.declared.entry.Entry.{Entry}
 use Rattle.xd_journal.specs.declared.news.News.{News}
 use Rattle.xd_reader.specs.declared.news.LinkNews.{LinkNews}
@@ -61,9 +61,9 @@ module _ {N : Type 0} {g : _} where
   page_read (o ∷ xs) (t ∷ fs) (suc k) s f = let rest : map is_some (pages_of xs) ≡ map is_linked fs = cc s in page_read xs fs k rest f
 
   -- where the news of a worker whose link is read say that a send failed, a write to its link failed
-  pub said_lost : (suite : List ℕ) (mode : ModeKind) (taken : List (Option (List LinkNews))) (calls : List Entry) (given : List News) (workers : List ℕ) (xs : List (Option (Peer N g))) (fates : List Fate) (k w : ℕ) → Kept suite mode taken calls given workers (pages_of xs) → map is_some (pages_of xs) ≡ map is_linked fates
+  pub said_lost : (work : Work) (taken : List (Option (List LinkNews))) (calls : List Entry) (given : List News) (workers : List ℕ) (xs : List (Option (Peer N g))) (fates : List Fate) (k w : ℕ) → Kept work taken calls given workers (pages_of xs) → map is_some (pages_of xs) ≡ map is_linked fates
       → slice_get workers k ≡ Some w → slice_get fates k ≡ Some fate.Linked → list_any says_send_fault (said_of_worker w given) ≡ true → slice_get (losses_of xs) k ≡ Some true
-  said_lost suite mode taken calls given workers xs fates k w kept seats at is h =
+  said_lost work taken calls given workers xs fates k w kept seats at is h =
       let it = page_read xs fates k seats is in
       fault_lost xs k it.0 it.1 ((kept.own k it.0 it.1).known) (ap (list_any says_send_fault) (kept.said k w it.0 at it.1) ∙ h)
 

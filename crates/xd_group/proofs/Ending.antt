@@ -4,7 +4,7 @@ use Rattle.std.specs.Prelude.{◌⊎◌, IfSome, MatchBool, slice_get, slice_set
 use Rattle.std.proofs.Math.Logic.{∥∥₁_map₂}
 use Rattle.std.proofs.Math.ListN.{set}
 use Rattle.std.proofs.lemmas.List.{map-set}
-use Rattle.xd_edge.specs.declared.mode.ModeKind.{ModeKind}
+use Rattle.xd_commands.specs.declared.work.Work.{Work}
 use Rattle.xd_edge.specs.Sink.{Sunk}
 use Rattle.xd_link.specs.Spring.{Spring}
 use Rattle.xd_journal.specs.declared.entry.Entry.{Entry}
@@ -29,8 +29,8 @@ use Rattle.xd_group.proofs.Keeping.{map_read, page_taken}
 use Rattle.xd_group.proofs.Running.{link_run}
 
 -- the hub begins to end
-pub late_begun : (suite : List ℕ) (mode : ModeKind) (taken : List (Option (List LinkNews))) (calls : List Entry) (given : List News) (workers : List ℕ) (pages : List (Option Page)) → Kept suite mode taken calls given workers pages → Late (map settled_at pages) taken pages
-late_begun suite mode taken calls given workers pages kept = record { takes = kept.takes; same = λ k p e. (map_read settled_at pages k (Some p) e, (kept.own k p e).known) }
+pub late_begun : (work : Work) (taken : List (Option (List LinkNews))) (calls : List Entry) (given : List News) (workers : List ℕ) (pages : List (Option Page)) → Kept work taken calls given workers pages → Late (map settled_at pages) taken pages
+late_begun work taken calls given workers pages kept = record { takes = kept.takes; same = λ k p e. (map_read settled_at pages k (Some p) e, (kept.own k p e).known) }
 
 -- there is a link at a place from which something was taken
 pub late_there : (first : List (Option Settled)) (taken : List (Option (List LinkNews))) (pages : List (Option Page)) (k : ℕ) (got : List LinkNews) → slice_get taken k ≡ Some (Some got) → Late first taken pages → IsLateAt pages k
@@ -88,17 +88,16 @@ settled_page (Some p ∷ ps) zero s e = (p, refl, cc e)
 settled_page (o ∷ ps) (suc k) s e = settled_page ps k s e
 
 -- and so it ran as its worker was told and said
-pub run_by : (suite : List ℕ) (mode : ModeKind) (taken : List (Option (List LinkNews))) (calls : List Entry) (given : List News) (workers : List ℕ) (pages : List (Option Page)) (k w : ℕ) (l : Link)
-    → slice_get workers k ≡ Some w → Kept suite mode taken calls given workers pages → RanAt (map settled_at pages) k l → LinkRun suite mode (said_of_worker w given) (orders_to w calls) l
-run_by suite mode taken calls given workers pages k w l at kept ran =
+pub run_by : (work : Work) (taken : List (Option (List LinkNews))) (calls : List Entry) (given : List News) (workers : List ℕ) (pages : List (Option Page)) (k w : ℕ) (l : Link)
+    → slice_get workers k ≡ Some w → Kept work taken calls given workers pages → RanAt (map settled_at pages) k l → LinkRun work (said_of_worker w given) (orders_to w calls) l
+run_by work taken calls given workers pages k w l at kept ran =
     let it = settled_page pages k ran.settled ran.at in
     let p = it.0 in
     let own = kept.own k p it.1 in
-    let run : LinkRun p.suite p.mode p.said p.told l = subst (λ (s : Settled). LinkRun s.suite s.mode s.said s.told l) (sym it.2) ran.run in
-    subst (λ (s : List ℕ). LinkRun s mode (said_of_worker w given) (orders_to w calls) l) own.suite_is
-    (subst (λ (m : ModeKind). LinkRun p.suite m (said_of_worker w given) (orders_to w calls) l) own.mode_is
-    (subst (λ (x : List What). LinkRun p.suite p.mode x (orders_to w calls) l) (kept.said k w p at it.1)
-    (subst (λ (e : List Entry). LinkRun p.suite p.mode p.said e l) (kept.told k w p at it.1) run)))
+    let run : LinkRun p.work p.said p.told l = subst (λ (s : Settled). LinkRun s.work s.said s.told l) (sym it.2) ran.run in
+    subst (λ (s : Work). LinkRun s (said_of_worker w given) (orders_to w calls) l) own.work_is
+    (subst (λ (x : List What). LinkRun p.work x (orders_to w calls) l) (kept.said k w p at it.1)
+    (subst (λ (e : List Entry). LinkRun p.work p.said e l) (kept.told k w p at it.1) run))
 
 pub some_of : {X : Type 0} (P : X → Type 0) (o : Option X) (x : X) → o ≡ Some x → IfSome o P → P x
 some_of P o x e h = let there : IfSome (Some x) P = subst (λ (y : Option _). IfSome y P) e h in there
@@ -112,12 +111,12 @@ by_no true P Q e q = absurd (cc e)
 by_no false P Q e q = q
 
 -- a link whose reader was refused was not used
-pub unused_so : (suite : List ℕ) (mode : ModeKind) (calls : List Entry) (given : List News) (workers : List ℕ) (fates : List Fate) (k w : ℕ) (l : Link) → slice_get workers k ≡ Some w → slice_get fates k ≡ Some fate.Refused → Unused l
-    → ∥ RanSo suite mode given calls (workers_with is_refused workers fates) w l ∥₁
-unused_so suite mode calls given workers fates k w l at is un = ∣ by_yes (is_listed w (workers_with is_refused workers fates)) (Unused l) (LinkRun suite mode (said_of_worker w given) (orders_to w calls) l) (among_with is_refused workers fates k w fate.Refused at is refl) un ∣₁
+pub unused_so : (work : Work) (calls : List Entry) (given : List News) (workers : List ℕ) (fates : List Fate) (k w : ℕ) (l : Link) → slice_get workers k ≡ Some w → slice_get fates k ≡ Some fate.Refused → Unused l
+    → ∥ RanSo work given calls (workers_with is_refused workers fates) w l ∥₁
+unused_so work calls given workers fates k w l at is un = ∣ by_yes (is_listed w (workers_with is_refused workers fates)) (Unused l) (LinkRun work (said_of_worker w given) (orders_to w calls) l) (among_with is_refused workers fates k w fate.Refused at is refl) un ∣₁
 
 -- a link that was read ran so
-pub linked_so : (suite : List ℕ) (mode : ModeKind) (taken : List (Option (List LinkNews))) (calls : List Entry) (given : List News) (workers : List ℕ) (pages : List (Option Page)) (fates : List Fate) (k w : ℕ) (l : Link) → slice_get workers k ≡ Some w → slice_get fates k ≡ Some fate.Linked
-    → ∥ RanAt (map settled_at pages) k l ∥₁ → ∥ Kept suite mode taken calls given workers pages ∥₁ → ∥ RanSo suite mode given calls (workers_with is_refused workers fates) w l ∥₁
-linked_so suite mode taken calls given workers pages fates k w l at is ran kept =
-    ∥∥₁_map₂ kept ran (λ kp r. by_no (is_listed w (workers_with is_refused workers fates)) (Unused l) (LinkRun suite mode (said_of_worker w given) (orders_to w calls) l) (not_with is_refused workers fates k w fate.Linked kp.apart at is refl) (run_by suite mode taken calls given workers pages k w l at kp r))
+pub linked_so : (work : Work) (taken : List (Option (List LinkNews))) (calls : List Entry) (given : List News) (workers : List ℕ) (pages : List (Option Page)) (fates : List Fate) (k w : ℕ) (l : Link) → slice_get workers k ≡ Some w → slice_get fates k ≡ Some fate.Linked
+    → ∥ RanAt (map settled_at pages) k l ∥₁ → ∥ Kept work taken calls given workers pages ∥₁ → ∥ RanSo work given calls (workers_with is_refused workers fates) w l ∥₁
+linked_so work taken calls given workers pages fates k w l at is ran kept =
+    ∥∥₁_map₂ kept ran (λ kp r. by_no (is_listed w (workers_with is_refused workers fates)) (Unused l) (LinkRun work (said_of_worker w given) (orders_to w calls) l) (not_with is_refused workers fates k w fate.Linked kp.apart at is refl) (run_by work taken calls given workers pages k w l at kp r))

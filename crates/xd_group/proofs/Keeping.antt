@@ -17,7 +17,7 @@ use Rattle.xd_journal.specs.declared.news.What.TheVariants as whats
 use Rattle.xd_reader.specs.declared.news.LinkNews.{LinkNews}
 use Rattle.xd_drive.specs.Calls.{is_order}
 use Rattle.xd_drive.specs.Performing.{is_start_of, was_started}
-use Rattle.xd_edge.specs.declared.mode.ModeKind.{ModeKind}
+use Rattle.xd_commands.specs.declared.work.Work.{Work}
 use Rattle.std.specs.Prelude.{IsSome}
 use Rattle.xd_commands.specs.Orders.{order_of}
 use Rattle.xd_journal.specs.Said.{is_breach, is_end, is_ready}
@@ -140,16 +140,16 @@ map_read f (z ∷ xs) (suc k) x e = map_read f xs k x e
 
 -- ---- pages
 
-told_own : (suite : List ℕ) (mode : ModeKind) (e : Entry) (p : Page) → IsOwn suite mode p → IsOwn suite mode (told_page e p)
-told_own suite mode e p o = record { suite_is = o.suite_is; mode_is = o.mode_is; known = refl; on_time = o.on_time }
+told_own : (work : Work) (e : Entry) (p : Page) → IsOwn work p → IsOwn work (told_page e p)
+told_own work e p o = record { work_is = o.work_is; known = refl; on_time = o.on_time }
 
-heard_own : (suite : List ℕ) (mode : ModeKind) (item : LinkNews) (what : Option What) (p : Page) → IsOwn suite mode p → IsOwn suite mode (heard_page item what p)
-heard_own suite mode item what p o = record { suite_is = o.suite_is; mode_is = o.mode_is; known = refl; on_time = o.on_time }
+heard_own : (work : Work) (item : LinkNews) (what : Option What) (p : Page) → IsOwn work p → IsOwn work (heard_page item what p)
+heard_own work item what p o = record { work_is = o.work_is; known = refl; on_time = o.on_time }
 
-own_set : (suite : List ℕ) (mode : ModeKind) (pages : List (Option Page)) (k i : ℕ) (q x : Page) → IsOwn suite mode q → ((k : ℕ) (p : Page) → slice_get pages k ≡ Some (Some p) → IsOwn suite mode p)
-    → ((i ≡ k) × (Some x ≡ Some q)) ⊎ ((i ≡ k → ⊥) × (slice_get pages i ≡ Some (Some x))) → IsOwn suite mode x
-own_set suite mode pages k i q x o all (inl a) = let same : q ≡ x = (let e = a.1 in sym (cc e)) in subst (λ (p : Page). IsOwn suite mode p) same o
-own_set suite mode pages k i q x o all (inr b) = all i x b.1
+own_set : (work : Work) (pages : List (Option Page)) (k i : ℕ) (q x : Page) → IsOwn work q → ((k : ℕ) (p : Page) → slice_get pages k ≡ Some (Some p) → IsOwn work p)
+    → ((i ≡ k) × (Some x ≡ Some q)) ⊎ ((i ≡ k → ⊥) × (slice_get pages i ≡ Some (Some x))) → IsOwn work x
+own_set work pages k i q x o all (inl a) = let same : q ≡ x = (let e = a.1 in sym (cc e)) in subst (λ (p : Page). IsOwn work p) same o
+own_set work pages k i q x o all (inr b) = all i x b.1
 
 silent_set : (workers : List ℕ) (pages : List (Option Page)) (k i v : ℕ) (q : Page) (given : List News) → ((k w : ℕ) → slice_get workers k ≡ Some w → slice_get pages k ≡ Some None → list_any is_ready (said_of_worker w given) ≡ false) → slice_get workers i ≡ Some v
     → ((i ≡ k) × (None ≡ Some q)) ⊎ ((i ≡ k → ⊥) × (slice_get pages i ≡ Some None)) → list_any is_ready (said_of_worker v given) ≡ false
@@ -189,9 +189,9 @@ said_so given workers pages k i v e p x there said wi (inl a) =
     ap (λ (y : Page). y.said) page ∙ said i v p wi (ap (slice_get pages) a.0 ∙ there)
 said_so given workers pages k i v e p x there said wi (inr b) = said i v x wi b.1
 
-pub kept_told : (suite : List ℕ) (mode : ModeKind) (taken : List (Option (List LinkNews))) (calls all : List Entry) (given : List News) (workers : List ℕ) (pages next : List (Option Page)) (k w : ℕ) (e : Entry)
-    → all ≡ calls ++ e ∷ [] → slice_get workers k ≡ Some w → was_started w calls ≡ true → is_order w e ≡ true → HasPage pages k → ToldAt e k pages next → Kept suite mode taken calls given workers pages → Kept suite mode taken all given workers next
-kept_told suite mode taken calls all given workers pages next k w e is at on order has to kept =
+pub kept_told : (work : Work) (taken : List (Option (List LinkNews))) (calls all : List Entry) (given : List News) (workers : List ℕ) (pages next : List (Option Page)) (k w : ℕ) (e : Entry)
+    → all ≡ calls ++ e ∷ [] → slice_get workers k ≡ Some w → was_started w calls ≡ true → is_order w e ≡ true → HasPage pages k → ToldAt e k pages next → Kept work taken calls given workers pages → Kept work taken all given workers next
+kept_told work taken calls all given workers pages next k w e is at on order has to kept =
     let p = has.0 in
     let q = told_page e has.0 in
     let new = to has.0 has.1 in
@@ -200,7 +200,7 @@ kept_told suite mode taken calls all given workers pages next k w e is at on ord
       count = kept.count ∙ sym (ap length new ∙ set_length pages k (Some q));
       told = λ i v x wi pi. told_by calls all workers pages k w i v e p x is order at has.1 kept.told kept.apart wi (set_read pages k i (Some q) (Some x) (ap (λ (l : List (Option Page)). slice_get l i) (sym new) ∙ pi));
       said = λ i v x wi pi. said_so given workers pages k i v e p x has.1 kept.said wi (set_read pages k i (Some q) (Some x) (ap (λ (l : List (Option Page)). slice_get l i) (sym new) ∙ pi));
-      own = λ i x pi. own_set suite mode pages k i (told_page e p) x (told_own suite mode e p (kept.own k p has.1)) kept.own (set_read pages k i (Some q) (Some x) (ap (λ (l : List (Option Page)). slice_get l i) (sym new) ∙ pi));
+      own = λ i x pi. own_set work pages k i (told_page e p) x (told_own work e p (kept.own k p has.1)) kept.own (set_read pages k i (Some q) (Some x) (ap (λ (l : List (Option Page)). slice_get l i) (sym new) ∙ pi));
       silent = λ i v wi pi. silent_set workers pages k i v q given kept.silent wi (set_read pages k i (Some q) None (ap (λ (l : List (Option Page)). slice_get l i) (sym new) ∙ pi));
       placed = λ u t. kept.placed u (started_same u calls all e is (order_starts u w e order) t);
       apart = kept.apart;
@@ -246,10 +246,10 @@ heard_silent given all workers pages k w i v q what is at silent apart wi (inl a
 heard_silent given all workers pages k w i v q what is at silent apart wi (inr b) =
     ap (list_any is_ready) (said_other v w given all what is (λ same. b.0 (apart i k v wi (at ∙ ap Some (sym same))))) ∙ silent i v wi b.1
 
-pub kept_heard : (suite : List ℕ) (mode : ModeKind) (taken next_taken : List (Option (List LinkNews))) (calls : List Entry) (given all : List News) (workers : List ℕ) (pages next : List (Option Page)) (k w : ℕ) (item : LinkNews) (what : Option What) (news : Option News) (got : List LinkNews)
+pub kept_heard : (work : Work) (taken next_taken : List (Option (List LinkNews))) (calls : List Entry) (given all : List News) (workers : List ℕ) (pages next : List (Option Page)) (k w : ℕ) (item : LinkNews) (what : Option What) (news : Option News) (got : List LinkNews)
     → slice_get taken k ≡ Some (Some got) → next_taken ≡ slice_set taken k (Some (got ++ item ∷ [])) → slice_get workers k ≡ Some w → was_started w calls ≡ true → HeardAt item what k pages next → news ≡ news_of_worker w what → all ≡ given ++ option_to_list news
-    → Kept suite mode taken calls given workers pages → Kept suite mode next_taken calls all workers next
-kept_heard suite mode taken next_taken calls given all workers pages next k w item what news got was then at on hear news_is added kept =
+    → Kept work taken calls given workers pages → Kept work next_taken calls all workers next
+kept_heard work taken next_taken calls given all workers pages next k w item what news got was then at on hear news_is added kept =
     let it = page_taken pages k got (ap (λ (l : List (Option (List LinkNews))). slice_get l k) kept.takes ∙ was) in
     let p = it.0 in
     let there = it.1 in
@@ -261,7 +261,7 @@ kept_heard suite mode taken next_taken calls given all workers pages next k w it
       count = kept.count ∙ sym (ap length new ∙ set_length pages k (Some q));
       told = λ i v x wi pi. heard_told calls workers pages k i v item what p x there kept.told wi (set_read pages k i (Some q) (Some x) (ap (λ (l : List (Option Page)). slice_get l i) (sym new) ∙ pi));
       said = λ i v x wi pi. heard_said given all workers pages k w i v item what p x is at there kept.said kept.apart wi (set_read pages k i (Some q) (Some x) (ap (λ (l : List (Option Page)). slice_get l i) (sym new) ∙ pi));
-      own = λ i x pi. own_set suite mode pages k i (heard_page item what p) x (heard_own suite mode item what p (kept.own k p there)) kept.own (set_read pages k i (Some q) (Some x) (ap (λ (l : List (Option Page)). slice_get l i) (sym new) ∙ pi));
+      own = λ i x pi. own_set work pages k i (heard_page item what p) x (heard_own work item what p (kept.own k p there)) kept.own (set_read pages k i (Some q) (Some x) (ap (λ (l : List (Option Page)). slice_get l i) (sym new) ∙ pi));
       silent = λ i v wi pi. heard_silent given all workers pages k w i v q what is at kept.silent kept.apart wi (set_read pages k i (Some q) None (ap (λ (l : List (Option Page)). slice_get l i) (sym new) ∙ pi));
       placed = kept.placed;
       apart = kept.apart;
@@ -282,9 +282,9 @@ calls_same : (v : ℕ) (calls all : List Entry) (e : Entry) → all ≡ calls ++
 calls_same v calls all e is h = filter_same (is_order v) calls all e is h
 
 -- a call that is no order and no start
-pub kept_called : (suite : List ℕ) (mode : ModeKind) (taken : List (Option (List LinkNews))) (calls all : List Entry) (given : List News) (workers : List ℕ) (pages : List (Option Page)) (e : Entry) → all ≡ calls ++ e ∷ [] → ((v : ℕ) → is_order v e ≡ false) → ((v : ℕ) → is_start_of v e ≡ false)
-    → Kept suite mode taken calls given workers pages → Kept suite mode taken all given workers pages
-kept_called suite mode taken calls all given workers pages e is none no_start kept =
+pub kept_called : (work : Work) (taken : List (Option (List LinkNews))) (calls all : List Entry) (given : List News) (workers : List ℕ) (pages : List (Option Page)) (e : Entry) → all ≡ calls ++ e ∷ [] → ((v : ℕ) → is_order v e ≡ false) → ((v : ℕ) → is_start_of v e ≡ false)
+    → Kept work taken calls given workers pages → Kept work taken all given workers pages
+kept_called work taken calls all given workers pages e is none no_start kept =
     record {
       takes = kept.takes;
       count = kept.count;
@@ -318,9 +318,9 @@ not_ready v given all n not is h = by (either_worker n.worker v)
     by (inr f) = ap (list_any is_ready) (said_same v given all n is f) ∙ h
 
 -- news of a worker that has no link
-pub kept_unlinked : (suite : List ℕ) (mode : ModeKind) (taken : List (Option (List LinkNews))) (calls : List Entry) (given all : List News) (workers : List ℕ) (pages : List (Option Page)) (k : ℕ) (n : News) → n.what ≡ whats.NotStarted → all ≡ given ++ n ∷ [] → slice_get workers k ≡ Some n.worker → was_started n.worker calls ≡ true → (HasPage pages k → ⊥)
-    → Kept suite mode taken calls given workers pages → Kept suite mode taken calls all workers pages
-kept_unlinked suite mode taken calls given all workers pages k n not is at on none kept =
+pub kept_unlinked : (work : Work) (taken : List (Option (List LinkNews))) (calls : List Entry) (given all : List News) (workers : List ℕ) (pages : List (Option Page)) (k : ℕ) (n : News) → n.what ≡ whats.NotStarted → all ≡ given ++ n ∷ [] → slice_get workers k ≡ Some n.worker → was_started n.worker calls ≡ true → (HasPage pages k → ⊥)
+    → Kept work taken calls given workers pages → Kept work taken calls all workers pages
+kept_unlinked work taken calls given all workers pages k n not is at on none kept =
     record {
       takes = kept.takes;
       count = kept.count;
@@ -334,42 +334,42 @@ kept_unlinked suite mode taken calls given all workers pages k n not is at on no
       new_said = λ u f. said_same u given all n is (λ e. not_started u n.worker calls on f (sym e)) ∙ kept.new_said u f;
     }
 
-told_new : (suite : List ℕ) (mode : ModeKind) (i : ℕ) (w v : ℕ) (b : Bool) (x : Page) (calls : List Entry) → v ≡ w → Some x ≡ page_opened suite mode b → orders_to w calls ≡ [] → x.told ≡ orders_to v calls
-told_new suite mode i w v false x calls same e z = absurd (cc e)
-told_new suite mode i w v true x calls same e z = let page : x ≡ first_page suite mode = cc e in ap (λ (p : Page). p.told) page ∙ (sym z ∙ ap (λ (u : ℕ). orders_to u calls) (sym same))
+told_new : (work : Work) (i : ℕ) (w v : ℕ) (b : Bool) (x : Page) (calls : List Entry) → v ≡ w → Some x ≡ page_opened work b → orders_to w calls ≡ [] → x.told ≡ orders_to v calls
+told_new work i w v false x calls same e z = absurd (cc e)
+told_new work i w v true x calls same e z = let page : x ≡ first_page work = cc e in ap (λ (p : Page). p.told) page ∙ (sym z ∙ ap (λ (u : ℕ). orders_to u calls) (sym same))
 
-said_new : (suite : List ℕ) (mode : ModeKind) (i : ℕ) (w v : ℕ) (b : Bool) (x : Page) (given : List News) → v ≡ w → Some x ≡ page_opened suite mode b → said_of_worker w given ≡ [] → x.said ≡ said_of_worker v given
-said_new suite mode i w v false x given same e z = absurd (cc e)
-said_new suite mode i w v true x given same e z = let page : x ≡ first_page suite mode = cc e in ap (λ (p : Page). p.said) page ∙ (sym z ∙ ap (λ (u : ℕ). said_of_worker u given) (sym same))
+said_new : (work : Work) (i : ℕ) (w v : ℕ) (b : Bool) (x : Page) (given : List News) → v ≡ w → Some x ≡ page_opened work b → said_of_worker w given ≡ [] → x.said ≡ said_of_worker v given
+said_new work i w v false x given same e z = absurd (cc e)
+said_new work i w v true x given same e z = let page : x ≡ first_page work = cc e in ap (λ (p : Page). p.said) page ∙ (sym z ∙ ap (λ (u : ℕ). said_of_worker u given) (sym same))
 
 past : {X : Type 0} (xs : List X) (i n : ℕ) (x : X) → i ≡ n → n ≡ length xs → slice_get xs i ≡ Some x → ⊥
 past xs i n x e z at = absurd (omega (arith, slice_get_within xs i x at, e, z))
 
-start_told : (suite : List ℕ) (mode : ModeKind) (calls : List Entry) (workers : List ℕ) (pages : List (Option Page)) (i v w : ℕ) (b : Bool) (x : Page) → length workers ≡ length pages → orders_to w calls ≡ [] → ((k w : ℕ) (p : Page) → slice_get workers k ≡ Some w → slice_get pages k ≡ Some (Some p) → p.told ≡ orders_to w calls)
-    → ((i ≡ length workers) × (v ≡ w)) ⊎ (slice_get workers i ≡ Some v) → ((i ≡ length pages) × (Some x ≡ page_opened suite mode b)) ⊎ (slice_get pages i ≡ Some (Some x)) → x.told ≡ orders_to v calls
-start_told suite mode calls workers pages i v w b x size z told (inl a) (inl c) = told_new suite mode i w v b x calls a.1 c.1 z
-start_told suite mode calls workers pages i v w b x size z told (inl a) (inr d) = absurd (past pages i (length workers) (Some x) a.0 size d)
-start_told suite mode calls workers pages i v w b x size z told (inr a) (inl c) = absurd (past workers i (length pages) v c.0 (sym size) a)
-start_told suite mode calls workers pages i v w b x size z told (inr a) (inr d) = told i v x a d
+start_told : (work : Work) (calls : List Entry) (workers : List ℕ) (pages : List (Option Page)) (i v w : ℕ) (b : Bool) (x : Page) → length workers ≡ length pages → orders_to w calls ≡ [] → ((k w : ℕ) (p : Page) → slice_get workers k ≡ Some w → slice_get pages k ≡ Some (Some p) → p.told ≡ orders_to w calls)
+    → ((i ≡ length workers) × (v ≡ w)) ⊎ (slice_get workers i ≡ Some v) → ((i ≡ length pages) × (Some x ≡ page_opened work b)) ⊎ (slice_get pages i ≡ Some (Some x)) → x.told ≡ orders_to v calls
+start_told work calls workers pages i v w b x size z told (inl a) (inl c) = told_new work i w v b x calls a.1 c.1 z
+start_told work calls workers pages i v w b x size z told (inl a) (inr d) = absurd (past pages i (length workers) (Some x) a.0 size d)
+start_told work calls workers pages i v w b x size z told (inr a) (inl c) = absurd (past workers i (length pages) v c.0 (sym size) a)
+start_told work calls workers pages i v w b x size z told (inr a) (inr d) = told i v x a d
 
-start_said : (suite : List ℕ) (mode : ModeKind) (given : List News) (workers : List ℕ) (pages : List (Option Page)) (i v w : ℕ) (b : Bool) (x : Page) → length workers ≡ length pages → said_of_worker w given ≡ [] → ((k w : ℕ) (p : Page) → slice_get workers k ≡ Some w → slice_get pages k ≡ Some (Some p) → p.said ≡ said_of_worker w given)
-    → ((i ≡ length workers) × (v ≡ w)) ⊎ (slice_get workers i ≡ Some v) → ((i ≡ length pages) × (Some x ≡ page_opened suite mode b)) ⊎ (slice_get pages i ≡ Some (Some x)) → x.said ≡ said_of_worker v given
-start_said suite mode given workers pages i v w b x size z said (inl a) (inl c) = said_new suite mode i w v b x given a.1 c.1 z
-start_said suite mode given workers pages i v w b x size z said (inl a) (inr d) = absurd (past pages i (length workers) (Some x) a.0 size d)
-start_said suite mode given workers pages i v w b x size z said (inr a) (inl c) = absurd (past workers i (length pages) v c.0 (sym size) a)
-start_said suite mode given workers pages i v w b x size z said (inr a) (inr d) = said i v x a d
+start_said : (work : Work) (given : List News) (workers : List ℕ) (pages : List (Option Page)) (i v w : ℕ) (b : Bool) (x : Page) → length workers ≡ length pages → said_of_worker w given ≡ [] → ((k w : ℕ) (p : Page) → slice_get workers k ≡ Some w → slice_get pages k ≡ Some (Some p) → p.said ≡ said_of_worker w given)
+    → ((i ≡ length workers) × (v ≡ w)) ⊎ (slice_get workers i ≡ Some v) → ((i ≡ length pages) × (Some x ≡ page_opened work b)) ⊎ (slice_get pages i ≡ Some (Some x)) → x.said ≡ said_of_worker v given
+start_said work given workers pages i v w b x size z said (inl a) (inl c) = said_new work i w v b x given a.1 c.1 z
+start_said work given workers pages i v w b x size z said (inl a) (inr d) = absurd (past pages i (length workers) (Some x) a.0 size d)
+start_said work given workers pages i v w b x size z said (inr a) (inl c) = absurd (past workers i (length pages) v c.0 (sym size) a)
+start_said work given workers pages i v w b x size z said (inr a) (inr d) = said i v x a d
 
-start_own : (suite : List ℕ) (mode : ModeKind) (pages : List (Option Page)) (i : ℕ) (b : Bool) (x : Page) → ((k : ℕ) (p : Page) → slice_get pages k ≡ Some (Some p) → IsOwn suite mode p)
-    → ((i ≡ length pages) × (Some x ≡ page_opened suite mode b)) ⊎ (slice_get pages i ≡ Some (Some x)) → IsOwn suite mode x
-start_own suite mode pages i true x own (inl a) = let same : first_page suite mode ≡ x = (let e = a.1 in sym (cc e)) in subst (λ (p : Page). IsOwn suite mode p) same (record { suite_is = refl; mode_is = refl; known = refl; on_time = refl })
-start_own suite mode pages i false x own (inl a) = absurd (let e = a.1 in cc e)
-start_own suite mode pages i b x own (inr d) = own i x d
+start_own : (work : Work) (pages : List (Option Page)) (i : ℕ) (b : Bool) (x : Page) → ((k : ℕ) (p : Page) → slice_get pages k ≡ Some (Some p) → IsOwn work p)
+    → ((i ≡ length pages) × (Some x ≡ page_opened work b)) ⊎ (slice_get pages i ≡ Some (Some x)) → IsOwn work x
+start_own work pages i true x own (inl a) = let same : first_page work ≡ x = (let e = a.1 in sym (cc e)) in subst (λ (p : Page). IsOwn work p) same (record { suite_is = refl; mode_is = refl; known = refl; on_time = refl })
+start_own work pages i false x own (inl a) = absurd (let e = a.1 in cc e)
+start_own work pages i b x own (inr d) = own i x d
 
-start_silent : (suite : List ℕ) (mode : ModeKind) (given : List News) (workers : List ℕ) (pages : List (Option Page)) (i v w : ℕ) (b : Bool) → length workers ≡ length pages → said_of_worker w given ≡ [] → ((k w : ℕ) → slice_get workers k ≡ Some w → slice_get pages k ≡ Some None → list_any is_ready (said_of_worker w given) ≡ false)
-    → ((i ≡ length workers) × (v ≡ w)) ⊎ (slice_get workers i ≡ Some v) → ((i ≡ length pages) × (None ≡ page_opened suite mode b)) ⊎ (slice_get pages i ≡ Some None) → list_any is_ready (said_of_worker v given) ≡ false
-start_silent suite mode given workers pages i v w b size z silent (inl a) c = ap (λ (u : ℕ). list_any is_ready (said_of_worker u given)) a.1 ∙ ap (list_any is_ready) z
-start_silent suite mode given workers pages i v w b size z silent (inr a) (inl c) = absurd (past workers i (length pages) v c.0 (sym size) a)
-start_silent suite mode given workers pages i v w b size z silent (inr a) (inr d) = silent i v a d
+start_silent : (work : Work) (given : List News) (workers : List ℕ) (pages : List (Option Page)) (i v w : ℕ) (b : Bool) → length workers ≡ length pages → said_of_worker w given ≡ [] → ((k w : ℕ) → slice_get workers k ≡ Some w → slice_get pages k ≡ Some None → list_any is_ready (said_of_worker w given) ≡ false)
+    → ((i ≡ length workers) × (v ≡ w)) ⊎ (slice_get workers i ≡ Some v) → ((i ≡ length pages) × (None ≡ page_opened work b)) ⊎ (slice_get pages i ≡ Some None) → list_any is_ready (said_of_worker v given) ≡ false
+start_silent work given workers pages i v w b size z silent (inl a) c = ap (λ (u : ℕ). list_any is_ready (said_of_worker u given)) a.1 ∙ ap (list_any is_ready) z
+start_silent work given workers pages i v w b size z silent (inr a) (inl c) = absurd (past workers i (length pages) v c.0 (sym size) a)
+start_silent work given workers pages i v w b size z silent (inr a) (inr d) = silent i v a d
 
 place_pushed : (xs : List ℕ) (k x y : ℕ) → slice_get xs k ≡ Some x → slice_get (xs ++ y ∷ []) k ≡ Some x
 place_pushed [] k x y e = absurd (cc e)
@@ -394,20 +394,20 @@ start_apart calls workers k l v w known z apart (inl a) (inr d) = absurd (not_st
 start_apart calls workers k l v w known z apart (inr c) (inl b) = absurd (not_started w v calls (all_at (λ u. was_started u calls ≡ true) workers k v known c) z (sym b.1))
 start_apart calls workers k l v w known z apart (inr c) (inr d) = apart k l v c d
 
-pub kept_started : (suite : List ℕ) (mode : ModeKind) (taken next_taken : List (Option (List LinkNews))) (calls all : List Entry) (given : List News) (workers next_workers : List ℕ) (pages next : List (Option Page)) (w slot : ℕ) (b : Bool)
-    → all ≡ calls ++ entry.Start w slot ∷ [] → was_started w calls ≡ false → All (λ u. was_started u calls ≡ true) workers → next_workers ≡ workers ++ w ∷ [] → next_taken ≡ taken ++ taken_of_link (page_opened suite mode b) ∷ [] → next ≡ pages ++ page_opened suite mode b ∷ []
-    → Kept suite mode taken calls given workers pages → Kept suite mode next_taken all given next_workers next
-kept_started suite mode taken next_taken calls all given workers next_workers pages next w slot b is fresh known more_workers more_taken more kept =
+pub kept_started : (work : Work) (taken next_taken : List (Option (List LinkNews))) (calls all : List Entry) (given : List News) (workers next_workers : List ℕ) (pages next : List (Option Page)) (w slot : ℕ) (b : Bool)
+    → all ≡ calls ++ entry.Start w slot ∷ [] → was_started w calls ≡ false → All (λ u. was_started u calls ≡ true) workers → next_workers ≡ workers ++ w ∷ [] → next_taken ≡ taken ++ taken_of_link (page_opened work b) ∷ [] → next ≡ pages ++ page_opened work b ∷ []
+    → Kept work taken calls given workers pages → Kept work next_taken all given next_workers next
+kept_started work taken next_taken calls all given workers next_workers pages next w slot b is fresh known more_workers more_taken more kept =
     let none = λ (v : ℕ). calls_same v calls all (entry.Start w slot) is refl in
     let at = λ (i v : ℕ) (wi : slice_get next_workers i ≡ Some v). push_read workers i w v (ap (λ (l : List ℕ). slice_get l i) (sym more_workers) ∙ wi) in
-    let page = λ (i : ℕ) (x : Page) (pi : slice_get next i ≡ Some (Some x)). push_read pages i (page_opened suite mode b) (Some x) (ap (λ (l : List (Option Page)). slice_get l i) (sym more) ∙ pi) in
+    let page = λ (i : ℕ) (x : Page) (pi : slice_get next i ≡ Some (Some x)). push_read pages i (page_opened work b) (Some x) (ap (λ (l : List (Option Page)). slice_get l i) (sym more) ∙ pi) in
     record {
-      takes = ap (map taken_of_link) more ∙ (map-append taken_of_link pages (page_opened suite mode b ∷ []) ∙ (ap (λ (l : List (Option (List LinkNews))). l ++ taken_of_link (page_opened suite mode b) ∷ []) kept.takes ∙ sym more_taken));
-      count = ap length more_workers ∙ (length-append workers (w ∷ []) ∙ (ap (λ (n : ℕ). n + 1) kept.count ∙ (sym (length-append pages (page_opened suite mode b ∷ [])) ∙ sym (ap length more))));
-      told = λ i v x wi pi. start_told suite mode calls workers pages i v w b x kept.count (kept.new_told w fresh) kept.told (at i v wi) (page i x pi) ∙ sym (none v);
-      said = λ i v x wi pi. start_said suite mode given workers pages i v w b x kept.count (kept.new_said w fresh) kept.said (at i v wi) (page i x pi);
-      own = λ i x pi. start_own suite mode pages i b x kept.own (page i x pi);
-      silent = λ i v wi pi. start_silent suite mode given workers pages i v w b kept.count (kept.new_said w fresh) kept.silent (at i v wi) (push_read pages i (page_opened suite mode b) None (ap (λ (l : List (Option Page)). slice_get l i) (sym more) ∙ pi));
+      takes = ap (map taken_of_link) more ∙ (map-append taken_of_link pages (page_opened work b ∷ []) ∙ (ap (λ (l : List (Option (List LinkNews))). l ++ taken_of_link (page_opened work b) ∷ []) kept.takes ∙ sym more_taken));
+      count = ap length more_workers ∙ (length-append workers (w ∷ []) ∙ (ap (λ (n : ℕ). n + 1) kept.count ∙ (sym (length-append pages (page_opened work b ∷ [])) ∙ sym (ap length more))));
+      told = λ i v x wi pi. start_told work calls workers pages i v w b x kept.count (kept.new_told w fresh) kept.told (at i v wi) (page i x pi) ∙ sym (none v);
+      said = λ i v x wi pi. start_said work given workers pages i v w b x kept.count (kept.new_said w fresh) kept.said (at i v wi) (page i x pi);
+      own = λ i x pi. start_own work pages i b x kept.own (page i x pi);
+      silent = λ i v wi pi. start_silent work given workers pages i v w b kept.count (kept.new_said w fresh) kept.silent (at i v wi) (push_read pages i (page_opened work b) None (ap (λ (l : List (Option Page)). slice_get l i) (sym more) ∙ pi));
       placed = λ u t. start_placed u w slot calls all workers next_workers is more_workers kept.placed t;
       apart = λ k l v wk wl. start_apart calls workers k l v w known fresh kept.apart (at k v wk) (at l v wl);
       new_told = λ u f. none u ∙ kept.new_told u (started_before u calls all (entry.Start w slot) is f);
@@ -451,8 +451,8 @@ both_ways true t f = absurd (cc f)
 both_ways false t f = absurd (cc t)
 
 -- who may be told has a number
-pub told_place : (suite : List ℕ) (mode : ModeKind) (taken : List (Option (List LinkNews))) (calls : List Entry) (given : List News) (workers : List ℕ) (pages : List (Option Page)) (w : ℕ) → may_tell (marks_told calls given w) ≡ true → ((k : ℕ) → slice_get workers k ≡ Some w → ⊥) → Kept suite mode taken calls given workers pages → ⊥
-told_place suite mode taken calls given workers pages w h none kept = by (was_started w calls) refl
+pub told_place : (work : Work) (taken : List (Option (List LinkNews))) (calls : List Entry) (given : List News) (workers : List ℕ) (pages : List (Option Page)) (w : ℕ) → may_tell (marks_told calls given w) ≡ true → ((k : ℕ) → slice_get workers k ≡ Some w → ⊥) → Kept work taken calls given workers pages → ⊥
+told_place work taken calls given workers pages w h none kept = by (was_started w calls) refl
   where
     by : (b : Bool) → was_started w calls ≡ b → ⊥
     by true t = let at = kept.placed w t in none at.0 at.1
@@ -467,22 +467,22 @@ page_there workers pages k w size e = there pages k (let n = slice_get_within wo
     there (x ∷ xs) (suc i) l = there xs i (omega (arith, l))
 
 -- and a link that can be told
-pub told_at : (suite : List ℕ) (mode : ModeKind) (taken : List (Option (List LinkNews))) (calls : List Entry) (given : List News) (workers : List ℕ) (pages : List (Option Page)) (k w : ℕ) → may_tell (marks_told calls given w) ≡ true → slice_get workers k ≡ Some w → Kept suite mode taken calls given workers pages → IsToldAt pages k
-told_at suite mode taken calls given workers pages k w h at kept = let there = page_there workers pages k w kept.count at in by there.0 there.1
+pub told_at : (work : Work) (taken : List (Option (List LinkNews))) (calls : List Entry) (given : List News) (workers : List ℕ) (pages : List (Option Page)) (k w : ℕ) → may_tell (marks_told calls given w) ≡ true → slice_get workers k ≡ Some w → Kept work taken calls given workers pages → IsToldAt pages k
+told_at work taken calls given workers pages k w h at kept = let there = page_there workers pages k w kept.count at in by there.0 there.1
   where
     by : (o : Option Page) → slice_get pages k ≡ Some o → IsToldAt pages k
     by None e = both_ways (list_any is_ready (said_of_worker w given)) (told_ready calls given w h) (kept.silent k w at e)
     by (Some p) e = record { page = p; at = e; known = (kept.own k p e).known; on_time = (kept.own k p e).on_time; going = ap (list_any is_end) (kept.said k w p at e) ∙ told_going calls given w h }
 
 -- a link from which something was taken can be heard
-pub heard_at : (suite : List ℕ) (mode : ModeKind) (taken : List (Option (List LinkNews))) (calls : List Entry) (given : List News) (workers : List ℕ) (pages : List (Option Page)) (k : ℕ) (got : List LinkNews) → slice_get taken k ≡ Some (Some got) → Kept suite mode taken calls given workers pages → IsHeardAt pages k
-heard_at suite mode taken calls given workers pages k got at kept =
+pub heard_at : (work : Work) (taken : List (Option (List LinkNews))) (calls : List Entry) (given : List News) (workers : List ℕ) (pages : List (Option Page)) (k : ℕ) (got : List LinkNews) → slice_get taken k ≡ Some (Some got) → Kept work taken calls given workers pages → IsHeardAt pages k
+heard_at work taken calls given workers pages k got at kept =
     let it = page_taken pages k got (ap (λ (l : List (Option (List LinkNews))). slice_get l k) kept.takes ∙ at) in
     record { page = it.0; at = it.1; known = (kept.own k it.0 it.1).known; on_time = (kept.own k it.0 it.1).on_time }
 
 -- and its worker is known
-pub worker_there : (suite : List ℕ) (mode : ModeKind) (taken : List (Option (List LinkNews))) (calls : List Entry) (given : List News) (workers : List ℕ) (pages : List (Option Page)) (k : ℕ) (got : List LinkNews) → slice_get taken k ≡ Some (Some got) → slice_get workers k ≡ None → Kept suite mode taken calls given workers pages → ⊥
-worker_there suite mode taken calls given workers pages k got at none kept =
+pub worker_there : (work : Work) (taken : List (Option (List LinkNews))) (calls : List Entry) (given : List News) (workers : List ℕ) (pages : List (Option Page)) (k : ℕ) (got : List LinkNews) → slice_get taken k ≡ Some (Some got) → slice_get workers k ≡ None → Kept work taken calls given workers pages → ⊥
+worker_there work taken calls given workers pages k got at none kept =
     let it = page_taken pages k got (ap (λ (l : List (Option (List LinkNews))). slice_get l k) kept.takes ∙ at) in
     within workers k (let n = slice_get_within pages k (Some it.0) it.1 in let size = kept.count in omega (arith, n, size)) none
   where
@@ -491,8 +491,8 @@ worker_there suite mode taken calls given workers pages k got at none kept =
     within (x ∷ xs) zero l e = cc e
     within (x ∷ xs) (suc i) l e = within xs i (omega (arith, l)) e
 
-pub kept_first : (suite : List ℕ) (mode : ModeKind) (taken : List (Option (List LinkNews))) (calls : List Entry) (given : List News) (workers : List ℕ) (pages : List (Option Page)) → taken ≡ [] → calls ≡ [] → given ≡ [] → workers ≡ [] → pages ≡ [] → Kept suite mode taken calls given workers pages
-kept_first suite mode taken calls given workers pages t c g w p =
+pub kept_first : (work : Work) (taken : List (Option (List LinkNews))) (calls : List Entry) (given : List News) (workers : List ℕ) (pages : List (Option Page)) → taken ≡ [] → calls ≡ [] → given ≡ [] → workers ≡ [] → pages ≡ [] → Kept work taken calls given workers pages
+kept_first work taken calls given workers pages t c g w p =
     record {
       takes = ap (map taken_of_link) p ∙ sym t;
       count = ap length w ∙ sym (ap length p);
@@ -510,11 +510,11 @@ ready_started : (b : Bool) (calls : List Entry) (given : List News) (w : ℕ) �
 ready_started true calls given w e new r = e
 ready_started false calls given w e new r = both_ways (list_any is_ready (said_of_worker w given)) r (ap (list_any is_ready) (new w e))
 
-pub kept_told_at : (suite : List ℕ) (mode : ModeKind) (taken : List (Option (List LinkNews))) (calls all : List Entry) (given : List News) (workers : List ℕ) (pages next : List (Option Page)) (k w : ℕ) (e : Entry)
-    → all ≡ calls ++ e ∷ [] → slice_get workers k ≡ Some w → may_tell (marks_told calls given w) ≡ true → is_order w e ≡ true → ToldAt e k pages next → Kept suite mode taken calls given workers pages → Kept suite mode taken all given workers next
-kept_told_at suite mode taken calls all given workers pages next k w e is at may order to kept =
-    let it = told_at suite mode taken calls given workers pages k w may at kept in
-    kept_told suite mode taken calls all given workers pages next k w e is at (ready_started (was_started w calls) calls given w refl kept.new_said (told_ready calls given w may)) order (it.page, it.at) to kept
+pub kept_told_at : (work : Work) (taken : List (Option (List LinkNews))) (calls all : List Entry) (given : List News) (workers : List ℕ) (pages next : List (Option Page)) (k w : ℕ) (e : Entry)
+    → all ≡ calls ++ e ∷ [] → slice_get workers k ≡ Some w → may_tell (marks_told calls given w) ≡ true → is_order w e ≡ true → ToldAt e k pages next → Kept work taken calls given workers pages → Kept work taken all given workers next
+kept_told_at work taken calls all given workers pages next k w e is at may order to kept =
+    let it = told_at work taken calls given workers pages k w may at kept in
+    kept_told work taken calls all given workers pages next k w e is at (ready_started (was_started w calls) calls given w refl kept.new_said (told_ready calls given w may)) order (it.page, it.at) to kept
 
 pub breach_news : (w : ℕ) (what : Option What) (news : Option News) → news ≡ news_of_worker w what → IfSome what (λ x. is_breach x ≡ false) → IfSome news (λ n. is_breach n.what ≡ false)
 breach_news w None news is h = subst (λ (o : Option News). IfSome o (λ n. is_breach n.what ≡ false)) (sym is) tt

@@ -9,7 +9,7 @@ use Rattle.xd_links.proofs.LinkFacts.{here}
 use Rattle.std.proofs.lemmas.Option.{slice_get_past}
 use Rattle.std.proofs.Math.Logic.{∥∥₁_elim}
 use Rattle.std.specs.List.{list_any}
-use Rattle.xd_edge.specs.declared.mode.ModeKind.{ModeKind}
+use Rattle.xd_commands.specs.declared.work.Work.{Work}
 use Rattle.xd_journal.specs.Said.{is_end}
 use Rattle.xd_trace.specs.Noted.{noted}
 use Rattle.xd_reader.specs.declared.news.LinkNews.{LinkNews}
@@ -19,11 +19,11 @@ use Rattle.xd_group_peer.specs.Pages.{Page, IsHeardAt, IsToldAt, is_nothing, tol
 use Rattle.xd_group_peer.specs.PeerView.{page_by, page_of, pages_of}
 use Rattle.xd_group_peer.specs.declared.peer.Peer.{Peer}
 
-abbrev as_page : List ℕ → ModeKind → List LinkNews → List Entry → List What → List What → Bool → Page
-as_page s m t o w l k = record { suite = s; mode = m; taken = t; told = o; said = w; late = l; known = k }
+abbrev as_page : Work → List LinkNews → List Entry → List What → List What → Bool → Page
+as_page s t o w l k = record { work = s; taken = t; told = o; said = w; late = l; known = k }
 
-same_page : (s s1 : List ℕ) (m m1 : ModeKind) (t t1 : List LinkNews) (o o1 : List Entry) (w w1 l l1 : List What) (k k1 : Bool) → s ≡ s1 → m ≡ m1 → t ≡ t1 → o ≡ o1 → w ≡ w1 → l ≡ l1 → k ≡ k1 → as_page s m t o w l k ≡ as_page s1 m1 t1 o1 w1 l1 k1
-same_page s s1 m m1 t t1 o o1 w w1 l l1 k k1 a b c d e f h = rw (a, b, c, d, e, f, h) refl
+same_page : (s s1 : Work) (t t1 : List LinkNews) (o o1 : List Entry) (w w1 l l1 : List What) (k k1 : Bool) → s ≡ s1 → t ≡ t1 → o ≡ o1 → w ≡ w1 → l ≡ l1 → k ≡ k1 → as_page s t o w l k ≡ as_page s1 t1 o1 w1 l1 k1
+same_page s s1 t t1 o o1 w w1 l l1 k k1 a c d e f h = rw (a, c, d, e, f, h) refl
 
 yes : (b : Bool) → (b ≡ false → ⊥) → b ≡ true
 yes true h = refl
@@ -51,14 +51,14 @@ module _ {N : Type 0} {g : _} where
       let both : Some (Some p) ≡ Some (Some (page a)) = sym e ∙ there in cc
 
   pub peer_told : (xs : List (Option (Peer N g))) (k : ℕ) (was : Option (Peer N g)) (a b : Peer N g) (e : Entry) (p : Page) → was ≡ get_or xs k was → was ≡ Some a
-      → (b.suite ≡ a.suite) × (b.mode ≡ a.mode) × (noted b.taken ≡ noted a.taken) → noted b.told ≡ noted a.told ++ e ∷ [] → (noted b.said ≡ noted a.said) × (noted b.late ≡ noted a.late) → b.is_known ≡ true → slice_get (pages_of xs) k ≡ Some (Some p) → pages_of (slice_set xs k (Some b)) ≡ slice_set (pages_of xs) k (Some (told_page e p))
+      → (b.work ≡ a.work) × (noted b.taken ≡ noted a.taken) → noted b.told ≡ noted a.told ++ e ∷ [] → (noted b.said ≡ noted a.said) × (noted b.late ≡ noted a.late) → b.is_known ≡ true → slice_get (pages_of xs) k ≡ Some (Some p) → pages_of (slice_set xs k (Some b)) ≡ slice_set (pages_of xs) k (Some (told_page e p))
   peer_told xs k was a b e p at is m o s h there =
-      map-set page_of xs k (Some b) ∙ ap (λ (q : Page). slice_set (pages_of xs) k (Some q)) (same_page _ _ _ _ _ _ _ _ _ _ _ _ _ _ (ap (λ (x : _). x.value) m.0) m.1 m.2 o s.0 s.1 h ∙ ap (told_page e) (sym (its_page xs k was a p at is there)))
+      map-set page_of xs k (Some b) ∙ ap (λ (q : Page). slice_set (pages_of xs) k (Some q)) (same_page _ _ _ _ _ _ _ _ _ _ _ _ (ap (λ (x : _). x.value) m.0) m.1 o s.0 s.1 h ∙ ap (told_page e) (sym (its_page xs k was a p at is there)))
 
   pub peer_heard : (xs : List (Option (Peer N g))) (k : ℕ) (was : Option (Peer N g)) (a b : Peer N g) (item : LinkNews) (what : Option What) (p : Page) → was ≡ get_or xs k was → was ≡ Some a
-      → (b.suite ≡ a.suite) × (b.mode ≡ a.mode) × (noted b.told ≡ noted a.told) → noted b.taken ≡ noted a.taken ++ item ∷ [] → noted b.said ≡ noted a.said ++ option_to_list what → noted b.late ≡ noted a.late → b.is_known ≡ true → slice_get (pages_of xs) k ≡ Some (Some p) → pages_of (slice_set xs k (Some b)) ≡ slice_set (pages_of xs) k (Some (heard_page item what p))
+      → (b.work ≡ a.work) × (noted b.told ≡ noted a.told) → noted b.taken ≡ noted a.taken ++ item ∷ [] → noted b.said ≡ noted a.said ++ option_to_list what → noted b.late ≡ noted a.late → b.is_known ≡ true → slice_get (pages_of xs) k ≡ Some (Some p) → pages_of (slice_set xs k (Some b)) ≡ slice_set (pages_of xs) k (Some (heard_page item what p))
   peer_heard xs k was a b item what p at is m t s l h there =
-      map-set page_of xs k (Some b) ∙ ap (λ (q : Page). slice_set (pages_of xs) k (Some q)) (same_page _ _ _ _ _ _ _ _ _ _ _ _ _ _ (ap (λ (x : _). x.value) m.0) m.1 t m.2 s l h ∙ ap (heard_page item what) (sym (its_page xs k was a p at is there)))
+      map-set page_of xs k (Some b) ∙ ap (λ (q : Page). slice_set (pages_of xs) k (Some q)) (same_page _ _ _ _ _ _ _ _ _ _ _ _ (ap (λ (x : _). x.value) m.0) t m.1 s l h ∙ ap (heard_page item what) (sym (its_page xs k was a p at is there)))
 
   pub peer_page : (xs : List (Option (Peer N g))) (k : ℕ) (was : Option (Peer N g)) (a : Peer N g) → was ≡ Some a → slice_get xs k ≡ Some was → slice_get (pages_of xs) k ≡ Some (Some (page_by a))
   peer_page xs k was a is at = slice_get-map page_of xs k ∙ ap (option_map page_of) (at ∙ ap Some is)
@@ -68,9 +68,9 @@ module _ {N : Type 0} {g : _} where
 
   -- a link that was marked
   pub peer_same : (xs : List (Option (Peer N g))) (k : ℕ) (was : Option (Peer N g)) (a b : Peer N g) → was ≡ get_or xs k was → was ≡ Some a → slice_get xs k ≡ Some was
-      → (b.suite ≡ a.suite) × (b.mode ≡ a.mode) × (noted b.taken ≡ noted a.taken) → noted b.told ≡ noted a.told → (noted b.said ≡ noted a.said) × (noted b.late ≡ noted a.late) → b.is_known ≡ a.is_known → pages_of (slice_set xs k (Some b)) ≡ pages_of xs
+      → (b.work ≡ a.work) × (noted b.taken ≡ noted a.taken) → noted b.told ≡ noted a.told → (noted b.said ≡ noted a.said) × (noted b.late ≡ noted a.late) → b.is_known ≡ a.is_known → pages_of (slice_set xs k (Some b)) ≡ pages_of xs
   peer_same xs k was a b at is there m o s h =
-      map-set page_of xs k (Some b) ∙ (ap (λ (q : Page). slice_set (pages_of xs) k (Some q)) (same_page _ _ _ _ _ _ _ _ _ _ _ _ _ _ (ap (λ (x : _). x.value) m.0) m.1 m.2 o s.0 s.1 h) ∙ set_same (pages_of xs) k (Some (page a)) (slice_get-map page_of xs k ∙ ap (option_map page_of) (there ∙ ap Some is)))
+      map-set page_of xs k (Some b) ∙ (ap (λ (q : Page). slice_set (pages_of xs) k (Some q)) (same_page _ _ _ _ _ _ _ _ _ _ _ _ (ap (λ (x : _). x.value) m.0) m.1 o s.0 s.1 h) ∙ set_same (pages_of xs) k (Some (page a)) (slice_get-map page_of xs k ∙ ap (option_map page_of) (there ∙ ap Some is)))
 
   past_page : (xs : List (Option (Peer N g))) (k : ℕ) (p : Page) → length xs ≤ k → slice_get (pages_of xs) k ≡ Some (Some p) → ⊥
   past_page xs k p l e = let none : slice_get (pages_of xs) k ≡ None = slice_get-map page_of xs k ∙ ap (option_map page_of) (slice_get_past xs k l) in let both : None ≡ Some (Some p) = sym none ∙ e in cc both
@@ -106,10 +106,10 @@ module _ {N : Type 0} {g : _} where
   )
 
   pub peer_late : (xs : List (Option (Peer N g))) (k : ℕ) (was : Option (Peer N g)) (a b : Peer N g) (item : LinkNews) (p : Page) → was ≡ get_or xs k was → was ≡ Some a
-      → (b.suite ≡ a.suite) × (b.mode ≡ a.mode) × (noted b.told ≡ noted a.told) → noted b.taken ≡ noted a.taken ++ item ∷ [] → noted b.said ≡ noted a.said → b.is_known ≡ true → slice_get (pages_of xs) k ≡ Some (Some p)
+      → (b.work ≡ a.work) × (noted b.told ≡ noted a.told) → noted b.taken ≡ noted a.taken ++ item ∷ [] → noted b.said ≡ noted a.said → b.is_known ≡ true → slice_get (pages_of xs) k ≡ Some (Some p)
       → pages_of (slice_set xs k (Some b)) ≡ slice_set (pages_of xs) k (Some (late_page item (noted b.late) p))
   peer_late xs k was a b item p at is m t s h there =
-      map-set page_of xs k (Some b) ∙ ap (λ (q : Page). slice_set (pages_of xs) k (Some q)) (same_page _ _ _ _ _ _ _ _ _ _ _ _ _ _ (ap (λ (x : _). x.value) m.0) m.1 t m.2 s refl h ∙ ap (late_page item (noted b.late)) (sym (its_page xs k was a p at is there)))
+      map-set page_of xs k (Some b) ∙ ap (λ (q : Page). slice_set (pages_of xs) k (Some q)) (same_page _ _ _ _ _ _ _ _ _ _ _ _ (ap (λ (x : _). x.value) m.0) t m.1 s refl h ∙ ap (late_page item (noted b.late)) (sym (its_page xs k was a p at is there)))
 
   pub past_late : (xs : List (Option (Peer N g))) (k : ℕ) → length xs ≤ k → ∥ IsLateAt (pages_of xs) k ∥₁ → ⊥
   past_late xs k l t = ∥∥₁_elim t never (λ x. past_page xs k x.page l x.at)

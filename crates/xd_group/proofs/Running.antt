@@ -80,7 +80,7 @@ all_of_link : (ms : List MessageView) (why : LinkStop) → of_link (map Message 
 all_of_link [] why = refl
 all_of_link (m ∷ ms) why = ap (λ (l : List LinkNews). Message m ∷ l) (all_of_link ms why)
 
-pub link_run : (now : Spring) (sunk : Option Sunk) (writes : ℕ) (p : Page) → LinkRead now p.taken → EndsSo p sunk writes → LinkRun p.suite p.mode p.said p.told (link_of now sunk writes)
+pub link_run : (now : Spring) (sunk : Option Sunk) (writes : ℕ) (p : Page) → LinkRead now p.taken → EndsSo p sunk writes → LinkRun p.work p.said p.told (link_of now sunk writes)
 link_run now sunk writes p read ends =
     let t = ends.tells in
     let all = read.puts in
@@ -105,7 +105,7 @@ link_run now sunk writes p read ends =
           };
       gone = is_gone t.why t.failed bytes read.first now writes t.memory (subst (λ (w : LinkStop). StopsAt w true bytes read.first now) same.1 at) (λ f. (ends.sent.part (t.still f)).0);
       read = to_stop all.stop bytes read.first now other at;
-      sent = sent_so why ends.broken sunk writes (to_link p.suite p.mode p.told p.said) (λ f. t.still (sym (fault_is t.why t.failed) ∙ f)) ends.sent (ends.handed (all_news ends.heard) why t.said_are);
+      sent = sent_so why ends.broken sunk writes (to_link p.work p.told p.said) (λ f. t.still (sym (fault_is t.why t.failed) ∙ f)) ends.sent (ends.handed (all_news ends.heard) why t.said_are);
     }
 
 or_true : (b : Bool) → (b || true) ≡ true
@@ -114,8 +114,8 @@ or_true false = refl
 
 module _ {K : Type 0} where
   -- a peer that is known to have ended
-  pub ends_so : (g : Gateway K) (p : Page) (ended lost closed : Bool) (sunk : Option Sunk) (writes : ℕ) → ended ≡ true → closed ≡ (has_left p.said || ended) → HeardSo g ended lost p.taken (p.said ++ p.late) → SentAs lost closed sunk writes (to_link p.suite p.mode p.told p.said) → EndsWhole (p.said ++ p.late) (to_link p.suite p.mode p.told p.said) sunk
+  pub ends_so : (g : Gateway K) (p : Page) (ended lost closed : Bool) (sunk : Option Sunk) (writes : ℕ) → ended ≡ true → closed ≡ (has_left p.said || ended) → HeardSo g ended lost p.taken (p.said ++ p.late) → SentAs lost closed sunk writes (to_link p.work p.told p.said) → EndsWhole (p.said ++ p.late) (to_link p.work p.told p.said) sunk
       → EndsSo p sunk writes
   ends_so g p false lost closed sunk writes e c h s w = absurd (cc e)
   ends_so g p true lost closed sunk writes e c h s w =
-      record { broken = lost; heard = h.heard; are = h.stands.are; tells = h.tells; sent = subst (λ (b : Bool). SentAs lost b sunk writes (to_link p.suite p.mode p.told p.said)) (c ∙ or_true (has_left p.said)) s; handed = w }
+      record { broken = lost; heard = h.heard; are = h.stands.are; tells = h.tells; sent = subst (λ (b : Bool). SentAs lost b sunk writes (to_link p.work p.told p.said)) (c ∙ or_true (has_left p.said)) s; handed = w }

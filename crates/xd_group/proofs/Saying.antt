@@ -4,7 +4,7 @@ use Rattle.std.specs.Prelude.{◌⊎◌, IfNone, MatchOption, is_some, option_to
 use Rattle.std.proofs.lemmas.Option.{slice_get_within}
 use Rattle.std.proofs.Math.Logic.{∥∥₁_elim}
 use Rattle.std.proofs.lemmas.List.{map-append, nil_from_length}
-use Rattle.xd_edge.specs.declared.mode.ModeKind.{ModeKind}
+use Rattle.xd_commands.specs.declared.work.Work.{Work}
 use Rattle.xd_journal.specs.declared.entry.Entry.{Entry}
 use Rattle.xd_journal.specs.declared.news.News.{News}
 use Rattle.xd_journal.specs.declared.news.What.{What}
@@ -24,14 +24,14 @@ use Rattle.xd_group.proofs.PageFacts.{never}
 
 -- ---- which places have a page
 
-opened_some : (suite : List ℕ) (mode : ModeKind) (b : Bool) → is_some (page_opened suite mode b) ≡ b
-opened_some suite mode true = refl
-opened_some suite mode false = refl
+opened_some : (work : Work) (b : Bool) → is_some (page_opened work b) ≡ b
+opened_some work true = refl
+opened_some work false = refl
 
-pub opened_seats : (suite : List ℕ) (mode : ModeKind) (b : Bool) (pages next : List (Option Page)) (fates fs : List Fate) (f : Fate) → next ≡ pages ++ page_opened suite mode b ∷ [] → fs ≡ fates ++ f ∷ [] → is_linked f ≡ b → map is_some pages ≡ map is_linked fates → map is_some next ≡ map is_linked fs
-opened_seats suite mode b pages next fates fs f is fis h e =
-    ap (map is_some) is ∙ (map-append is_some pages (page_opened suite mode b ∷ []) ∙ (ap (λ (l : List Bool). l ++ is_some (page_opened suite mode b) ∷ []) e
-    ∙ (ap (λ (x : Bool). map is_linked fates ++ x ∷ []) (opened_some suite mode b ∙ sym h) ∙ (sym (map-append is_linked fates (f ∷ [])) ∙ ap (map is_linked) (sym fis)))))
+pub opened_seats : (work : Work) (b : Bool) (pages next : List (Option Page)) (fates fs : List Fate) (f : Fate) → next ≡ pages ++ page_opened work b ∷ [] → fs ≡ fates ++ f ∷ [] → is_linked f ≡ b → map is_some pages ≡ map is_linked fates → map is_some next ≡ map is_linked fs
+opened_seats work b pages next fates fs f is fis h e =
+    ap (map is_some) is ∙ (map-append is_some pages (page_opened work b ∷ []) ∙ (ap (λ (l : List Bool). l ++ is_some (page_opened work b) ∷ []) e
+    ∙ (ap (λ (x : Bool). map is_linked fates ++ x ∷ []) (opened_some work b ∙ sym h) ∙ (sym (map-append is_linked fates (f ∷ [])) ∙ ap (map is_linked) (sym fis)))))
 
 no_page : (pages : List (Option Page)) (fates : List Fate) (k : ℕ) (f : Fate) → map is_some pages ≡ map is_linked fates → slice_get fates k ≡ Some f → is_linked f ≡ false → slice_get pages k ≡ Some None
 no_page [] [] k f e b h = absurd (cc b)
@@ -93,9 +93,9 @@ unsaid_heard given all workers pages next waiting k w p what news added is at ha
     }
 
 -- an item was taken of a link
-pub unsaid_step : (suite : List ℕ) (mode : ModeKind) (taken : List (Option (List LinkNews))) (calls : List Entry) (given all : List News) (workers : List ℕ) (pages next : List (Option Page)) (waiting : List ℕ) (k w : ℕ) (got : List LinkNews) (what : Option What) (news : Option News)
-    → slice_get taken k ≡ Some (Some got) → all ≡ given ++ option_to_list news → news ≡ news_of_worker w what → slice_get workers k ≡ Some w → map is_some next ≡ map is_some pages → Kept suite mode taken calls given workers pages → Unsaid given workers pages waiting → Unsaid all workers next waiting
-unsaid_step suite mode taken calls given all workers pages next waiting k w got what news was added is at seats kept u =
+pub unsaid_step : (work : Work) (taken : List (Option (List LinkNews))) (calls : List Entry) (given all : List News) (workers : List ℕ) (pages next : List (Option Page)) (waiting : List ℕ) (k w : ℕ) (got : List LinkNews) (what : Option What) (news : Option News)
+    → slice_get taken k ≡ Some (Some got) → all ≡ given ++ option_to_list news → news ≡ news_of_worker w what → slice_get workers k ≡ Some w → map is_some next ≡ map is_some pages → Kept work taken calls given workers pages → Unsaid given workers pages waiting → Unsaid all workers next waiting
+unsaid_step work taken calls given all workers pages next waiting k w got what news was added is at seats kept u =
     let it = page_taken pages k got (ap (λ (l : List (Option (List LinkNews))). slice_get l k) kept.takes ∙ was) in
     unsaid_heard given all workers pages next waiting k w it.0 what news added is at it.1 kept.apart seats u
 
@@ -176,31 +176,31 @@ waited waiting false n i k e = by (push_read waiting i n k e)
     by (inl a) = inr (refl, a.0, a.1)
     by (inr b) = inl b
 
-page_last : (suite : List ℕ) (mode : ModeKind) (pages : List (Option Page)) (b : Bool) → b ≡ false → slice_get (pages ++ page_opened suite mode b ∷ []) (length pages) ≡ Some None
-page_last suite mode [] b h = rw h refl
-page_last suite mode (p ∷ ps) b h = page_last suite mode ps b h
+page_last : (work : Work) (pages : List (Option Page)) (b : Bool) → b ≡ false → slice_get (pages ++ page_opened work b ∷ []) (length pages) ≡ Some None
+page_last work [] b h = rw h refl
+page_last work (p ∷ ps) b h = page_last work ps b h
 
 page_front : (pages more : List (Option Page)) (k : ℕ) → slice_get pages k ≡ Some None → slice_get (pages ++ more) k ≡ Some None
 page_front [] more k e = absurd (cc e)
 page_front (p ∷ ps) more zero e = e
 page_front (p ∷ ps) more (suc k) e = page_front ps more k e
 
-not_opened : (suite : List ℕ) (mode : ModeKind) (b : Bool) → None ≡ page_opened suite mode b → b ≡ false
-not_opened suite mode true e = absurd (cc e)
-not_opened suite mode false e = refl
+not_opened : (work : Work) (b : Bool) → None ≡ page_opened work b → b ≡ false
+not_opened work true e = absurd (cc e)
+not_opened work false e = refl
 
 waits_new : (waiting : List ℕ) (b : Bool) (n : ℕ) → b ≡ false → slice_get (waiting ++ wait_one b n) (length waiting) ≡ Some n
 waits_new waiting true n h = absurd (cc h)
 waits_new waiting false n h = last waiting n
 
-pub unsaid_started : (suite : List ℕ) (mode : ModeKind) (given : List News) (workers ws : List ℕ) (pages next : List (Option Page)) (waiting waits : List ℕ) (w n : ℕ) (b : Bool) → ws ≡ workers ++ w ∷ [] → next ≡ pages ++ page_opened suite mode b ∷ [] → waits ≡ waiting ++ wait_one b n → n ≡ length pages
+pub unsaid_started : (work : Work) (given : List News) (workers ws : List ℕ) (pages next : List (Option Page)) (waiting waits : List ℕ) (w n : ℕ) (b : Bool) → ws ≡ workers ++ w ∷ [] → next ≡ pages ++ page_opened work b ∷ [] → waits ≡ waiting ++ wait_one b n → n ≡ length pages
     → length workers ≡ length pages → said_of_worker w given ≡ [] → Unsaid given workers pages waiting → Unsaid given ws next waits
-unsaid_started suite mode given workers ws pages next waiting waits w n b wis is wait at count nothing u =
+unsaid_started work given workers ws pages next waiting waits w n b wis is wait at count nothing u =
     record {
       waits = λ i k v e f. held i k v (ap (λ (l : List ℕ). slice_get l k) (sym wis) ∙ f) (from i k e);
       once = λ i j k e f. one i j k (from i k e) (from j k f);
       below = λ i k e. under i k (from i k e);
-      said = λ k v e f. of k v (push_read workers k w v (ap (λ (l : List ℕ). slice_get l k) (sym wis) ∙ e)) (push_read pages k (page_opened suite mode b) None (ap (λ (l : List (Option Page)). slice_get l k) (sym is) ∙ f));
+      said = λ k v e f. of k v (push_read workers k w v (ap (λ (l : List ℕ). slice_get l k) (sym wis) ∙ e)) (push_read pages k (page_opened work b) None (ap (λ (l : List (Option Page)). slice_get l k) (sym is) ∙ f));
     }
   where
     from : (i k : ℕ) → slice_get waits i ≡ Some k → (slice_get waiting i ≡ Some k) ⊎ ((b ≡ false) × (i ≡ length waiting) × (k ≡ n))
@@ -213,10 +213,10 @@ unsaid_started suite mode given workers ws pages next waiting waits w n b wis is
     held : (i k v : ℕ) → slice_get (workers ++ w ∷ []) k ≡ Some v → (slice_get waiting i ≡ Some k) ⊎ ((b ≡ false) × (i ≡ length waiting) × (k ≡ n)) → (said_of_worker v given ≡ []) × (slice_get next k ≡ Some None)
     held i k v f (inl e) =
         let was = u.waits i k v e (worker_was workers w k v f (u.below i k e)) in
-        (was.0, ap (λ (l : List (Option Page)). slice_get l k) is ∙ page_front pages (page_opened suite mode b ∷ []) k was.1)
+        (was.0, ap (λ (l : List (Option Page)). slice_get l k) is ∙ page_front pages (page_opened work b ∷ []) k was.1)
     held i k v f (inr (new, here, same)) = (
       its v k (push_read workers k w v f) same,
-      ap (λ (l : List (Option Page)). slice_get l k) is ∙ (ap (slice_get (pages ++ page_opened suite mode b ∷ [])) (same ∙ at) ∙ page_last suite mode pages b new),
+      ap (λ (l : List (Option Page)). slice_get l k) is ∙ (ap (slice_get (pages ++ page_opened work b ∷ [])) (same ∙ at) ∙ page_last work pages b new),
     )
 
     one : (i j k : ℕ) → (slice_get waiting i ≡ Some k) ⊎ ((b ≡ false) × (i ≡ length waiting) × (k ≡ n)) → (slice_get waiting j ≡ Some k) ⊎ ((b ≡ false) × (j ≡ length waiting) × (k ≡ n)) → i ≡ j
@@ -239,16 +239,16 @@ unsaid_started suite mode given workers ws pages next waiting waits w n b wis is
     still k v (inl (i, e)) = inl (i, in_all i k (front waiting (wait_one b n) i k e))
     still k v (inr was) = inr was
 
-    of : (k v : ℕ) → ((k ≡ length workers) × (v ≡ w)) ⊎ (slice_get workers k ≡ Some v) → ((k ≡ length pages) × (None ≡ page_opened suite mode b)) ⊎ (slice_get pages k ≡ Some None) → IsWaiting k waits ⊎ (said_of_worker v given ≡ NotStarted ∷ [])
-    of k v (inl a) (inl p) = inl (length waiting, in_all (length waiting) k (waits_new waiting b n (not_opened suite mode b p.1) ∙ ap Some (at ∙ sym p.0)))
+    of : (k v : ℕ) → ((k ≡ length workers) × (v ≡ w)) ⊎ (slice_get workers k ≡ Some v) → ((k ≡ length pages) × (None ≡ page_opened work b)) ⊎ (slice_get pages k ≡ Some None) → IsWaiting k waits ⊎ (said_of_worker v given ≡ NotStarted ∷ [])
+    of k v (inl a) (inl p) = inl (length waiting, in_all (length waiting) k (waits_new waiting b n (not_opened work b p.1) ∙ ap Some (at ∙ sym p.0)))
     of k v (inl a) (inr p) = absurd (omega (arith, slice_get_within pages k None p, a.0, count))
     of k v (inr c) (inl p) = absurd (omega (arith, slice_get_within workers k v c, p.0, count))
     of k v (inr c) (inr p) = still k v (u.said k v c p)
 
-pub unsaid_opened : (suite : List ℕ) (mode : ModeKind) (taken : List (Option (List LinkNews))) (calls : List Entry) (given : List News) (workers ws : List ℕ) (pages next : List (Option Page)) (waiting held waits : List ℕ) (w n : ℕ) (l b : Bool) → ws ≡ workers ++ w ∷ [] → next ≡ pages ++ page_opened suite mode b ∷ []
-    → waits ≡ held ++ wait_one l n → held ≡ waiting → l ≡ b → n ≡ length pages → was_started w calls ≡ false → Kept suite mode taken calls given workers pages → Unsaid given workers pages waiting → Unsaid given ws next waits
-unsaid_opened suite mode taken calls given workers ws pages next waiting held waits w n l b wis is wait same linked at new kept u =
-    unsaid_started suite mode given workers ws pages next waiting waits w n b wis is (wait ∙ (ap (λ (x : List ℕ). x ++ wait_one l n) same ∙ ap (λ (x : Bool). waiting ++ wait_one x n) linked)) at kept.count (kept.new_said w new) u
+pub unsaid_opened : (work : Work) (taken : List (Option (List LinkNews))) (calls : List Entry) (given : List News) (workers ws : List ℕ) (pages next : List (Option Page)) (waiting held waits : List ℕ) (w n : ℕ) (l b : Bool) → ws ≡ workers ++ w ∷ [] → next ≡ pages ++ page_opened work b ∷ []
+    → waits ≡ held ++ wait_one l n → held ≡ waiting → l ≡ b → n ≡ length pages → was_started w calls ≡ false → Kept work taken calls given workers pages → Unsaid given workers pages waiting → Unsaid given ws next waits
+unsaid_opened work taken calls given workers ws pages next waiting held waits w n l b wis is wait same linked at new kept u =
+    unsaid_started work given workers ws pages next waiting waits w n b wis is (wait ∙ (ap (λ (x : List ℕ). x ++ wait_one l n) same ∙ ap (λ (x : Bool). waiting ++ wait_one x n) linked)) at kept.count (kept.new_said w new) u
 
 -- ---- in the end
 
@@ -263,9 +263,9 @@ no_way true t f = cc f
 no_way false t f = cc t
 
 -- a worker without a link that is read
-pub said_unlinked : (suite : List ℕ) (mode : ModeKind) (taken : List (Option (List LinkNews))) (calls : List Entry) (given : List News) (workers : List ℕ) (pages : List (Option Page)) (fates : List Fate) (waiting : List ℕ) (w : ℕ) → length fates ≡ length workers → map is_some pages ≡ map is_linked fates
-    → is_listed w (workers_with is_linked workers fates) ≡ false → Kept suite mode taken calls given workers pages → Unsaid given workers pages waiting → SaidUnlinked given w
-said_unlinked suite mode taken calls given workers pages fates waiting w matched seats out kept u = by (was_started w calls) refl
+pub said_unlinked : (work : Work) (taken : List (Option (List LinkNews))) (calls : List Entry) (given : List News) (workers : List ℕ) (pages : List (Option Page)) (fates : List Fate) (waiting : List ℕ) (w : ℕ) → length fates ≡ length workers → map is_some pages ≡ map is_linked fates
+    → is_listed w (workers_with is_linked workers fates) ≡ false → Kept work taken calls given workers pages → Unsaid given workers pages waiting → SaidUnlinked given w
+said_unlinked work taken calls given workers pages fates waiting w matched seats out kept u = by (was_started w calls) refl
   where
     as_said : (k : ℕ) → slice_get workers k ≡ Some w → IsWaiting k waiting ⊎ (said_of_worker w given ≡ NotStarted ∷ []) → SaidUnlinked given w
     as_said k at (inl (i, e)) = inl (u.waits i k w e at).0

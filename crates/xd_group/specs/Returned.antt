@@ -13,7 +13,7 @@ use Rattle.xd_group.specs.Unused.{Unused}
 -- It ran by the news of its worker and the orders to it; where the crew refused its reader, it was not used.
 -- Example: gw1's reader is refused: its link is killed, and gave and took nothing.
 abbrev pub RanSo : List ℕ → ModeKind → List News → List Entry → List ℕ → ℕ → Link → Type 0
-RanSo suite mode given calls refused w l = MatchBool (is_listed w refused) (Unused l) (LinkRun suite mode (said_of_worker w given) (orders_to w calls) l)
+RanSo work given calls refused w l = MatchBool (is_listed w refused) (Unused l) (LinkRun work (said_of_worker w given) (orders_to w calls) l)
 
 -- what the starter tells of it
 abbrev pub end_told : Bool → AskedOfLink

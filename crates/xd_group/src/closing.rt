@@ -92,7 +92,7 @@ impl<S: Source + Drop, N: Sink + Drop, C: Crew<Reader<S>>> Group<S, N, C> {
     /// Takes from the links until nothing more is to come of any. From now on nothing is told and nothing said.
     pub fn settle<R: Wait>(&mut self, rt: &R) -> Result<(), OutOfMemory>
         ensures ending { OnOk result (Ending 0
-            (began_with self.old.suite self.old.mode (mails self.old.links.desk)
+            (began_with self.old.work (mails self.old.links.desk)
             self.old.peers.items) self.old.diary
             (links_left (mails self.new.links.desk) self.new.peers.items self.new.spares.items)) }
         ensures crew { (self.new.links.crew ≡ self.old.links.crew)
@@ -177,7 +177,7 @@ impl<S: Source + Drop, N: Sink + Drop, C: Crew<Reader<S>>> Group<S, N, C> {
             (links_left (mails self.new.links.desk) self.new.peers.items self.new.spares.items) }
         ensures runs { (b : Began) → Ending number b self.old.diary
             (links_left (mails self.old.links.desk) self.old.peers.items self.old.spares.items)
-            → IfSome result (λ e. ∥ RanSo b.suite b.mode (noted self.old.diary.given)
+            → IfSome result (λ e. ∥ RanSo b.work (noted self.old.diary.given)
             (noted self.old.diary.calls)
             (workers_with is_refused self.old.diary.workers.items self.old.diary.fates.items)
             e.worker (link_of (spring (S.supply e.source) (S.is_ended e.source)

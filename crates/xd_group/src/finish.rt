@@ -98,7 +98,7 @@ impl<St: Starter, C: Crew<Reader<St::Src>>> GatewayHub<St, C> {
         alloc: Global,
     ) -> Result<Vec<LinkEnd<St::Src, St::Snk>>, OutOfMemory>
         ensures runs { IfOk result (λ ends.
-            All (λ l. ∥ RanSo self.old.group.suite self.old.group.mode
+            All (λ l. ∥ RanSo self.old.group.work
             (noted self.old.group.diary.given) (noted self.old.group.diary.calls)
             (workers_with is_refused self.old.group.diary.workers.items
             self.old.group.diary.fates.items) l.worker

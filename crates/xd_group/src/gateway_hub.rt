@@ -1,6 +1,6 @@
 // The hub over the links that a starter starts and a crew reads.
 ghost use Rattle.std.specs.Prelude.{◌≡◌, ◌≤◌, ◌<◌, ◌+◌, ◌∷◌, ◌++◌, [], ℕ, Some, true, false, take, length, vec_len, IfOk, IfSome, IfNone, OnOk, Option};
-ghost use Rattle.std.specs.Str.{encode_utf8_all};
+ghost use Rattle.xd_group_peer.specs.ToLink.{CallFits};
 ghost use Rattle.std.specs.List.{list_all};
 ghost use Rattle.xd_journal.specs.declared.entry.Entry.TheVariants.{Start, Kill};
 ghost use Rattle.xd_drive.specs.Calls.{is_order};
@@ -10,7 +10,6 @@ ghost use Rattle.xd_trace.specs.Noted.{noted};
 ghost use Rattle.xd_group.specs.Diaries.{diary_tells};
 ghost use Rattle.xd_journal.specs.declared.entry.Entry.{Entry};
 ghost use Rattle.xd_journal.specs.declared.news.News.{News};
-ghost use Rattle.xd_edge.specs.declared.mode.ModeKind.{ModeKind};
 ghost use Rattle.xd_starts.specs.Children.{is_buried, is_killed_and_reaped, starts_told};
 ghost use Rattle.xd_group.specs.InStep.{ChildrenInStep};
 ghost use Rattle.xd_group.specs.Kills.{KilledSo};
@@ -22,9 +21,10 @@ use crate::group::{Group, Step, cut_of};
 use std::alloc::Global;
 use std::snapshot::Snapshot;
 use std::sync::Wait;
+use xd_commands::Work;
 use xd_crew::Crew;
 use xd_drive::Hub;
-use xd_edge::{ModeKind, OutOfMemory, Text};
+use xd_edge::OutOfMemory;
 use xd_journal::{Entry, News};
 use xd_link::{Place, Starter};
 use xd_links::Links;
@@ -32,7 +32,7 @@ use xd_reader::Reader;
 use xd_starts::{Children, Opened};
 
 /// A hub whose workers are at the end of links. A worker of slot s is started at the place of number s, and called to run
-/// the tests of the suite by the mode. It owns the starter and the crew; who is done with it takes it apart.
+/// the tests of the suite that they are called for. It owns the starter and the crew; who is done with it takes it apart.
 pub struct GatewayHub<St: Starter, C: Crew<Reader<St::Src>>> {
     pub places: Vec<Place>,
     pub children: Children<St>,
@@ -48,24 +48,21 @@ pub struct GatewayHub<St: Starter, C: Crew<Reader<St::Src>>> {
 }
 
 impl<St: Starter, C: Crew<Reader<St::Src>>> GatewayHub<St, C> {
-    /// No worker was started. `suite` is the path of the suite as the workers are told it, of at most 65,536 bytes, and the
-    /// mode is not `Local`.
+    /// No worker was started. The call for this work has to have a payload, and its mode is not `Local`.
     pub fn new(
         alloc: Global,
         places: Vec<Place>,
-        suite: Text,
-        mode: ModeKind,
+        work: Work,
         starter: St,
         crew: C,
     ) -> Result<GatewayHub<St, C>, OutOfMemory>
-        requires short { length (encode_utf8_all suite) ≤ 65536 }
+        requires fits { CallFits work }
         ensures places { IfOk result (λ h. h.places ≡ places) }
         ensures starter { IfOk result (λ h. (h.children.starter ≡ starter)
             × (h.children.first.value ≡ starter)) }
         ensures crew { IfOk result (λ h. (h.group.links.crew ≡ crew)
             × (h.group.first.value ≡ crew)) }
-        ensures suite { IfOk result (λ h. h.group.suite ≡ suite) }
-        ensures mode { IfOk result (λ h. h.group.mode ≡ mode) }
+        ensures work { IfOk result (λ h. h.group.work ≡ work) }
         ensures calls { IfOk result (λ h. noted h.group.diary.calls ≡ []) }
         ensures given { IfOk result (λ h. noted h.group.diary.given ≡ []) }
         ensures whole { IfOk result (λ h. h.group.is_whole ≡ true) }
@@ -82,8 +79,7 @@ impl<St: Starter, C: Crew<Reader<St::Src>>> GatewayHub<St, C> {
                 peers: Vec::new(alloc),
                 spares: Vec::new(alloc),
                 diary,
-                suite,
-                mode,
+                work,
                 is_whole: true,
             },
         })
@@ -115,8 +111,7 @@ impl<St: Starter, C: Crew<Reader<St::Src>>> GatewayHub<St, C> {
         ensures waiting { self.new.group.diary.waiting ≡ self.old.group.diary.waiting }
         ensures calls { noted self.new.group.diary.calls ≡ noted self.old.group.diary.calls }
         ensures whole { OnOk result (self.new.group.is_whole ≡ self.old.group.is_whole) }
-        ensures made { (self.new.group.suite ≡ self.old.group.suite)
-            × (self.new.group.mode ≡ self.old.group.mode) }
+        ensures made { self.new.group.work ≡ self.old.group.work }
         ensures first { (self.new.places ≡ self.old.places)
             × (self.new.children.first ≡ self.old.children.first)
             × (self.new.group.first ≡ self.old.group.first) }
@@ -141,8 +136,7 @@ impl<St: Starter, C: Crew<Reader<St::Src>>> GatewayHub<St, C> {
         ensures waiting { self.new.group.diary.waiting ≡ self.old.group.diary.waiting }
         ensures calls { noted self.new.group.diary.calls ≡ noted self.old.group.diary.calls }
         ensures whole { OnOk result (self.new.group.is_whole ≡ self.old.group.is_whole) }
-        ensures made { (self.new.group.suite ≡ self.old.group.suite)
-            × (self.new.group.mode ≡ self.old.group.mode) }
+        ensures made { self.new.group.work ≡ self.old.group.work }
         ensures first { (self.new.places ≡ self.old.places)
             × (self.new.children.first ≡ self.old.children.first)
             × (self.new.group.first ≡ self.old.group.first) }
@@ -166,9 +160,9 @@ impl<St: Starter, C: Crew<Reader<St::Src>>> GatewayHub<St, C> {
 }
 
 impl<St: Starter, C: Crew<Reader<St::Src>>> Hub for GatewayHub<St, C> {
-    type Made = (Text, ModeKind, Vec<Place>, Snapshot<St>, Snapshot<C>);
+    type Made = (Work, Vec<Place>, Snapshot<St>, Snapshot<C>);
 
-    ghost made = { λ h. (h.group.suite, h.group.mode, h.places, h.children.first, h.group.first) };
+    ghost made = { λ h. (h.group.work, h.places, h.children.first, h.group.first) };
 
     ghost slots = { λ m. vec_len m.2 };
 
@@ -201,8 +195,7 @@ impl<St: Starter, C: Crew<Reader<St::Src>>> Hub for GatewayHub<St, C> {
             × (self.new.children.first ≡ self.old.children.first)
             × (self.new.group.first ≡ self.old.group.first) }
         ensures whole { OnOk result (self.new.group.is_whole ≡ self.old.group.is_whole) }
-        ensures made { (self.new.group.suite ≡ self.old.group.suite)
-            × (self.new.group.mode ≡ self.old.group.mode) }
+        ensures made { self.new.group.work ≡ self.old.group.work }
     {
         let number = self.children.children.len();
         match self.children.start(alloc, &self.places[slot as usize])? {
@@ -236,8 +229,7 @@ impl<St: Starter, C: Crew<Reader<St::Src>>> Hub for GatewayHub<St, C> {
             × (self.new.children.first ≡ self.old.children.first)
             × (self.new.group.first ≡ self.old.group.first) }
         ensures whole { OnOk result (self.new.group.is_whole ≡ self.old.group.is_whole) }
-        ensures made { (self.new.group.suite ≡ self.old.group.suite)
-            × (self.new.group.mode ≡ self.old.group.mode) }
+        ensures made { self.new.group.work ≡ self.old.group.work }
     {
         let cut = self.group.say(alloc, worker, order)?;
         self.children.cut(cut);
@@ -256,8 +248,7 @@ impl<St: Starter, C: Crew<Reader<St::Src>>> Hub for GatewayHub<St, C> {
             × (self.new.children.first ≡ self.old.children.first)
             × (self.new.group.first ≡ self.old.group.first) }
         ensures whole { self.new.group.is_whole ≡ self.old.group.is_whole }
-        ensures made { (self.new.group.suite ≡ self.old.group.suite)
-            × (self.new.group.mode ≡ self.old.group.mode) }
+        ensures made { self.new.group.work ≡ self.old.group.work }
     {
         let cut = self.group.kill(worker);
         self.children.cut(cut);
@@ -281,8 +272,7 @@ impl<St: Starter, C: Crew<Reader<St::Src>>> Hub for GatewayHub<St, C> {
             × (self.new.children.first ≡ self.old.children.first)
             × (self.new.group.first ≡ self.old.group.first) }
         ensures whole { OnOk result (self.new.group.is_whole ≡ self.old.group.is_whole) }
-        ensures made { (self.new.group.suite ≡ self.old.group.suite)
-            × (self.new.group.mode ≡ self.old.group.mode) }
+        ensures made { self.new.group.work ≡ self.old.group.work }
     {
         if let Some(news) = self.group.next_unlinked() {
             return Ok(news);

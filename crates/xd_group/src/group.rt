@@ -1,7 +1,7 @@
 // All links of a hub, with what they were told and what was said of them.
 ghost use Rattle.std.specs.Prelude.{◌≡◌, ◌≤◌, true, length, map, is_some};
 ghost use Rattle.std.specs.Bool.{then_some};
-ghost use Rattle.std.specs.Str.{encode_utf8_all};
+ghost use Rattle.xd_group_peer.specs.ToLink.{CallFits};
 ghost use Rattle.xd_links.specs.Runs.{news_of};
 ghost use Rattle.xd_trace.specs.Noted.{noted};
 ghost use Rattle.xd_post.specs.Mails.{mails};
@@ -17,8 +17,9 @@ use crate::spare::Spare;
 use std::alloc::Global;
 use std::snapshot::Snapshot;
 use std::sync::Wait;
+use xd_commands::Work;
 use xd_crew::Crew;
-use xd_edge::{ModeKind, OutOfMemory, Sink, Text};
+use xd_edge::{OutOfMemory, Sink};
 use xd_group_peer::Peer;
 use xd_journal::{Entry, News, What};
 use xd_link::Source;
@@ -35,12 +36,11 @@ pub struct Group<S: Source + Drop, N: Sink + Drop, C: Crew<Reader<S>>> {
     /// The links whose readers the crew refused, by the numbers of the starts.
     pub spares: Vec<Option<Spare<S, N>>>,
     pub diary: Diary,
-    pub suite: Text,
-    pub mode: ModeKind,
+    pub work: Work,
     pub is_whole: bool,
-    ghost short: { length (encode_utf8_all suite) ≤ 65536 },
+    ghost fits: { CallFits work },
     ghost kept: { is_whole ≡ true →
-        ∥ Kept suite mode (news_of (mails links.desk)) (noted diary.calls)
+        ∥ Kept work (news_of (mails links.desk)) (noted diary.calls)
         (noted diary.given) diary.workers.items (pages_of peers.items) ∥₁ },
     ghost few: { is_whole ≡ true →
         RoseFor (count_with is_refused diary.fates.items) (C.faults first.value)
@@ -97,7 +97,7 @@ impl<S: Source + Drop, N: Sink + Drop, C: Crew<Reader<S>>> Group<S, N, C> {
         ensures over { OnErr result (self.new.is_whole ≡ false) }
         ensures cut { IfOk result (λ cut.
             Loses cut (losses_of self.old.peers.items) (losses_of self.new.peers.items)) }
-        ensures made { (self.new.suite ≡ self.old.suite) × (self.new.mode ≡ self.old.mode)
+        ensures made { (self.new.work ≡ self.old.work)
             × (self.new.first ≡ self.old.first) }
     {
         if !self.is_whole {
@@ -131,7 +131,7 @@ impl<S: Source + Drop, N: Sink + Drop, C: Crew<Reader<S>>> Group<S, N, C> {
         ensures over { OnErr result (self.new.is_whole ≡ false) }
         ensures cut { IfOk result (λ r.
             Loses r.cut (losses_of self.old.peers.items) (losses_of self.new.peers.items)) }
-        ensures made { (self.new.suite ≡ self.old.suite) × (self.new.mode ≡ self.old.mode)
+        ensures made { (self.new.work ≡ self.old.work)
             × (self.new.first ≡ self.old.first) }
     {
         if !self.is_whole {
@@ -162,7 +162,7 @@ impl<S: Source + Drop, N: Sink + Drop, C: Crew<Reader<S>>> Group<S, N, C> {
             slice_get self.old.diary.workers.items k ≡ Some worker → ⊥) }
         ensures whole { self.new.is_whole ≡ self.old.is_whole }
         ensures peers { self.new.peers ≡ self.old.peers }
-        ensures made { (self.new.suite ≡ self.old.suite) × (self.new.mode ≡ self.old.mode)
+        ensures made { (self.new.work ≡ self.old.work)
             × (self.new.first ≡ self.old.first) }
         ensures starts { SameStarts self.old.diary self.new.diary }
     {
@@ -184,7 +184,7 @@ impl<S: Source + Drop, N: Sink + Drop, C: Crew<Reader<S>>> Group<S, N, C> {
         ensures starts { SameStarts self.old.diary self.new.diary }
         ensures whole { self.new.is_whole ≡ self.old.is_whole }
         ensures peers { self.new.peers ≡ self.old.peers }
-        ensures made { (self.new.suite ≡ self.old.suite) × (self.new.mode ≡ self.old.mode)
+        ensures made { (self.new.work ≡ self.old.work)
             × (self.new.first ≡ self.old.first) }
     {
         if !self.is_whole {

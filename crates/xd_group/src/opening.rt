@@ -5,8 +5,9 @@ use crate::group::Group;
 use crate::peers::{push_none, push_peer};
 use crate::spare::{Spare, keep};
 use std::alloc::Global;
+use xd_commands::Work;
 use xd_crew::Crew;
-use xd_edge::{ModeKind, OutOfMemory, Sink, Text};
+use xd_edge::{OutOfMemory, Sink};
 use xd_group_peer::Peer;
 use xd_link::Source;
 use xd_links::Links;
@@ -21,13 +22,13 @@ pub(crate) struct Seat {
 
 impl<S: Source + Drop, N: Sink + Drop, C: Crew<Reader<S>>> Group<S, N, C> {
     ghost use Rattle.std.specs.Prelude.{◌≡◌, ◌≤◌, true, length, map, is_some, ◌<◌, ◌+◌, ◌∷◌, ◌++◌, [], ℕ, List, Option, Some, false, is_none, OnOk, OnErr, IfOk, IfSome};
-    ghost use Rattle.std.specs.Str.{encode_utf8_all};
+    ghost use Rattle.xd_group_peer.specs.ToLink.{CallFits};
     ghost use Rattle.xd_links.specs.Runs.{news_of};
     ghost use Rattle.xd_trace.specs.Noted.{noted};
     ghost use Rattle.xd_post.specs.Mails.{mails};
     ghost use Rattle.xd_group.specs.Fates.{is_linked, is_refused, has_link};
     ghost use Rattle.xd_group_peer.specs.PeerView.{pages_of, losses_of};
-    ghost use Rattle.xd_edge.specs.declared.mode.ModeKind.{ModeKind};
+    ghost use Rattle.xd_commands.specs.declared.work.Work.{Work};
     ghost use Rattle.xd_edge.specs.Faults.{Counted};
     ghost use Rattle.xd_drive.specs.Performing.{was_started};
     ghost use Rattle.xd_link.specs.FreshLink.{unused};
@@ -40,9 +41,9 @@ impl<S: Source + Drop, N: Sink + Drop, C: Crew<Reader<S>>> Group<S, N, C> {
     // Starts a reader. The source comes back where the crew refused it.
     fn read(links: &mut Links<S, C>, source: S) -> Result<Option<S>, OutOfMemory>
         requires nothing_given { IfSome (S.supply source) (λ s. s.given ≡ []) }
-        ensures news { (suite : List ℕ) (mode : ModeKind) →
+        ensures news { (work : Work) →
             IfOk result (λ r. news_of (mails links.new.desk) ≡ news_of (mails links.old.desk)
-            ++ taken_of_link (page_opened suite mode (is_none r)) ∷ []) }
+            ++ taken_of_link (page_opened work (is_none r)) ∷ []) }
         ensures back { IfOk result (λ r. IfSome r (λ back. back ≡ source)) }
         ensures crew { IfOk result (λ r.
             Counted (is_none r) (C.faults links.old.crew) (C.faults links.new.crew)) }
@@ -64,20 +65,19 @@ impl<S: Source + Drop, N: Sink + Drop, C: Crew<Reader<S>>> Group<S, N, C> {
         alloc: Global,
         back: Option<S>,
         sink: N,
-        suite: &Text,
-        mode: ModeKind,
+        work: &Work,
     ) -> Result<Seat, OutOfMemory>
         requires nothing_given { IfSome back (λ source.
             IfSome (S.supply source) (λ s. s.given ≡ [])) }
         requires no_reads { IfSome back (λ source. S.faults source ≡ 0) }
         requires nothing_taken { IfSome (N.sunk sink) (λ s. s ≡ unused) }
         requires no_writes { N.faults sink ≡ 0 }
-        requires short { length (encode_utf8_all suite.now) ≤ 65536 }
+        requires fits { CallFits work.now }
         ensures linked { IfOk result (λ r. is_linked r.fate ≡ is_none back) }
         ensures started { IfOk result (λ r. has_link r.fate ≡ true) }
         ensures pages { OnOk result
             (pages_of peers.new.items ≡ pages_of peers.old.items
-            ++ page_opened suite.now mode (is_none back) ∷ []) }
+            ++ page_opened work.now (is_none back) ∷ []) }
         ensures cut { IfOk result (λ r.
             CutsLast r.fate r.is_cut (losses_of peers.old.items) (losses_of peers.new.items)) }
         ensures kept { IfOk result (λ r.
@@ -86,7 +86,7 @@ impl<S: Source + Drop, N: Sink + Drop, C: Crew<Reader<S>>> Group<S, N, C> {
         match back {
             None => {
                 keep(spares, None)?;
-                let is_cut = push_peer(peers, alloc, sink, suite, mode)?;
+                let is_cut = push_peer(peers, alloc, sink, work)?;
                 Ok(Seat {
                     fate: Fate::Linked,
                     is_cut,
@@ -130,7 +130,7 @@ impl<S: Source + Drop, N: Sink + Drop, C: Crew<Reader<S>>> Group<S, N, C> {
         ensures cut { IfOk result (λ r.
             CutsLast r.fate r.is_cut (losses_of self.old.peers.items)
             (losses_of self.new.peers.items)) }
-        ensures made { (self.new.suite ≡ self.old.suite) × (self.new.mode ≡ self.old.mode)
+        ensures made { (self.new.work ≡ self.old.work)
             × (self.new.first ≡ self.old.first) }
     {
         let was_whole = self.is_whole;
@@ -145,8 +145,7 @@ impl<S: Source + Drop, N: Sink + Drop, C: Crew<Reader<S>>> Group<S, N, C> {
             alloc,
             back,
             sink,
-            &self.suite,
-            self.mode,
+            &self.work,
         )?;
         self.diary.note_start(worker, slot, seat.fate)?;
         self.diary.note_unlinked(number, seat.fate)?;
@@ -168,7 +167,7 @@ impl<S: Source + Drop, N: Sink + Drop, C: Crew<Reader<S>>> Group<S, N, C> {
         ensures over { OnErr result (self.new.is_whole ≡ false) }
         ensures lost { OnOk result
             (losses_of self.new.peers.items ≡ losses_of self.old.peers.items ++ false ∷ []) }
-        ensures made { (self.new.suite ≡ self.old.suite) × (self.new.mode ≡ self.old.mode)
+        ensures made { (self.new.work ≡ self.old.work)
             × (self.new.first ≡ self.old.first) }
     {
         let was_whole = self.is_whole;

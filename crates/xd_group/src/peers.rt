@@ -1,6 +1,6 @@
 // The links by their numbers.
 ghost use Rattle.std.specs.Prelude.{◌≡◌, ◌≤◌, ◌<◌, ℕ, ◌∷◌, ◌++◌, [], true, false, Some, None, OnOk, IfOk, IfSome, IsSome, is_some, length, map, slice_get, slice_set};
-ghost use Rattle.std.specs.Str.{encode_utf8_all};
+ghost use Rattle.xd_group_peer.specs.ToLink.{CallFits};
 ghost use Rattle.xd_journal.specs.Said.{is_breach};
 ghost use Rattle.xd_commands.specs.Orders.{order_of};
 ghost use Rattle.xd_group_peer.specs.Ends.{EndsSo};
@@ -13,7 +13,8 @@ ghost use Rattle.std.specs.Bool.{then_some};
 ghost use Rattle.std.specs.List.{list_all};
 
 use std::alloc::Global;
-use xd_edge::{ModeKind, OutOfMemory, Sink, Text};
+use xd_commands::Work;
+use xd_edge::{OutOfMemory, Sink};
 use xd_group_peer::{HeardNews, Peer};
 use xd_journal::Entry;
 use xd_reader::LinkNews;
@@ -115,19 +116,18 @@ pub fn push_peer<N: Sink + Drop>(
     peers: &mut Vec<Option<Peer<N>>>,
     alloc: Global,
     sink: N,
-    suite: &Text,
-    mode: ModeKind,
+    work: &Work,
 ) -> Result<bool, OutOfMemory>
     requires nothing_taken { IfSome (N.sunk sink) (λ s. s ≡ unused) }
-    requires short { length (encode_utf8_all suite.now) ≤ 65536 }
+    requires fits { CallFits work.now }
     ensures pages { OnOk result
         (pages_of peers.new.items ≡ pages_of peers.old.items
-        ++ page_opened suite.now mode true ∷ []) }
+        ++ page_opened work.now true ∷ []) }
     ensures lost { IfOk result (λ b.
         losses_of peers.new.items ≡ losses_of peers.old.items ++ b ∷ []) }
 {
     peers.reserve(1)?;
-    let peer = Peer::begin(alloc, sink, suite, mode)?;
+    let peer = Peer::begin(alloc, sink, work)?;
     let is_lost = peer.is_lost;
     peers.push_reserved(Some(peer));
     Ok(is_lost)

@@ -30,7 +30,8 @@ use Rattle.xd_commands.proofs.Fitting.{call_dumped, dumped_written}
 use Rattle.xd_gateway.specs.declared.fault.GatewayFault.{GatewayFault}
 use Rattle.xd_gateway.specs.declared.fault.GatewayFault.TheVariants.{SendFault, Channel, Opening, OutOfMemory}
 use Rattle.xd_gateway.specs.declared.gateway.Gateway.{Gateway}
-use Rattle.xd_gateway.specs.Calls.{Wanted, call_tree, exec_by, exec_message, exec_wanted, item_message, item_wanted, kwargs_of, open_refusal, opening_wanted, say_wanted}
+use Rattle.xd_factory.specs.declared.faults.SendFault.TheVariants as send_fault
+use Rattle.xd_gateway.specs.Calls.{IsPayloadOf, Wanted, call_tree, exec_by, exec_message, exec_wanted, item_message, item_wanted, kwargs_of, open_refusal, opening_wanted, say_wanted}
 use Rattle.xd_gateway.specs.Line.{GatewaySink, PrintsBytes, Says}
 use Rattle.xd_gateway.specs.Stands.{IsNew}
 use Rattle.xd_gateway.specs.View.{IsLost, SaysOn, is_broken, line_of, side_of}
@@ -138,6 +139,16 @@ module _ {K : Type 0} where
           (says_order (dumped v) (say_wanted 1 v (side_of g)) r (line_of sunk faults g) (line_of sunk faults k) (ap (λ (x : _). item_wanted 1 (sent_gives x (dumped v))) can) not (says h))
 
 -- ---- a call that failed
+
+-- what is no payload is no lack of memory, or one
+pub unwritten : (d : Result (List ℕ) DumpFault) (f : GatewayFault) → IsPayloadOf d (Err f) → (f ≡ OutOfMemory → ⊥) → false ≡ is_ok d
+unwritten d (Channel (send_fault.Dump f)) h n = sym (ap is_ok h)
+unwritten d (Channel send_fault.Unknown) h n = absurd h
+unwritten d (Channel send_fault.SendClosed) h n = absurd h
+unwritten d (Channel send_fault.OutOfMemory) h n = absurd h
+unwritten d (Opening f) h n = absurd h
+unwritten d SendFault h n = absurd h
+unwritten d OutOfMemory h n = absurd (n refl)
 
 -- a write that failed is no lack of memory
 pub not_memory : (f : GatewayFault) (r : Result (Unit {0}) GatewayFault) → f ≡ SendFault → r ≡ Err f → r ≡ Err OutOfMemory → ⊥

@@ -97,7 +97,10 @@ pub fn fits_payload(alloc: Global, work: &Work) -> Result<bool, OutOfMemory>
     match call_payload(alloc, &name, kwargs) {
         Ok(_payload) => Ok(true),
         Err(GatewayFault::OutOfMemory) => Err(OutOfMemory),
-        Err(_) => Ok(false),
+        Err(GatewayFault::Channel(_)) => Ok(false),
+        // Neither comes: nothing is opened or written.
+        Err(GatewayFault::Opening(_)) => Ok(false),
+        Err(GatewayFault::SendFault) => Ok(false),
     }
 }
 

@@ -2,6 +2,7 @@
 use Rattle.std.specs.Prelude.{◌≡◌, ◌≤◌, ℕ, Bool, true, List, Option, Some, All, is_some, map, slice_get, take}
 use Rattle.std.specs.List.{list_any}
 use Rattle.xd_edge.specs.declared.mode.ModeKind.{ModeKind}
+use Rattle.xd_commands.specs.declared.work.Work.{Work}
 use Rattle.xd_edge.specs.Sink.{Sunk}
 use Rattle.xd_link.specs.Spring.{Spring}
 use Rattle.xd_links.specs.Runs.{news_of}
@@ -24,11 +25,10 @@ use Rattle.xd_group.specs.declared.fate.Fate.TheVariants.{Linked}
 use Rattle.xd_group.specs.declared.finish.LinkEnd.{LinkEnd}
 use Rattle.xd_group_peer.specs.declared.peer.Peer.{Peer}
 
--- what a hub had when it began to end its links: the suite and the mode, what was taken of each link, the pages of the
+-- what a hub had when it began to end its links: the work of its workers, what was taken of each link, the pages of the
 -- links, and to which of them a write had failed
 pub record Began : Type 0 where
-  pub suite : List ℕ
-  pub mode : ModeKind
+  pub work : Work
   pub taken : List (Option (List LinkNews))
   pub pages : List (Option Page)
   pub lost : List Bool
@@ -45,7 +45,7 @@ pub record LinksLeft : Type 0 where
 module _ {N : Type 0} {g : _} where
   -- what a hub had that began to end these links
   abbrev pub began_with : List ℕ → ModeKind → List (Option (Ring × List LinkNews)) → List (Option (Peer N g)) → Began
-  began_with suite mode mails peers = record { suite = suite; mode = mode; taken = news_of mails; pages = pages_of peers; lost = losses_of peers }
+  began_with work mails peers = record { work = work; taken = news_of mails; pages = pages_of peers; lost = losses_of peers }
 
 module _ {N X : Type 0} {g : _} where
   -- what is left of these links
@@ -55,7 +55,7 @@ module _ {N X : Type 0} {g : _} where
 -- A hub that began so has ended the links of the starts before this number. From it on each link that is read is still
 -- there, and nothing more is to come of it; each that is not read is kept.
 pub record Ending (n : ℕ) (b : Began) (d : Diary) (l : LinksLeft) : Type 0 where
-  pub kept : ∥ Kept b.suite b.mode b.taken (noted d.calls) (noted d.given) d.workers.items b.pages ∥₁
+  pub kept : ∥ Kept b.work b.taken (noted d.calls) (noted d.given) d.workers.items b.pages ∥₁
   pub said : (k w : ℕ) → slice_get d.workers.items k ≡ Some w → slice_get d.fates.items k ≡ Some Linked → list_any says_send_fault (said_of_worker w (noted d.given)) ≡ true → slice_get b.lost k ≡ Some true
   pub late : ∥ Late (map settled_at b.pages) l.taken l.pages ∥₁
   pub spared : KeptFrom n l.kept d.fates.items
@@ -70,5 +70,5 @@ module _ {A B : Type 0} (seen : A → Spring) (sunk : B → Option Sunk) (writes
     pub kills : ∥ KilledSo children (noted d.calls) d.workers.items d.fates.items b.lost ∥₁
     pub workers : map (λ l. l.worker) ends ≡ workers_with has_link (take n d.workers.items) (take n d.fates.items)
     pub asked : children_asked (take n children) ≡ map (λ l. end_told l.killed) ends
-    pub runs : All (λ l. ∥ RanSo b.suite b.mode (noted d.given) (noted d.calls) (workers_with is_refused d.workers.items d.fates.items) l.worker (link_of (seen l.source) (sunk l.sink) (writes l.sink)) ∥₁) ends
+    pub runs : All (λ l. ∥ RanSo b.work (noted d.given) (noted d.calls) (workers_with is_refused d.workers.items d.fates.items) l.worker (link_of (seen l.source) (sunk l.sink) (writes l.sink)) ∥₁) ends
     pub killed : All (λ l. ∥ EndKilledSo (noted d.calls) (noted d.given) (workers_with is_refused d.workers.items d.fates.items) l.worker l.killed (writes l.sink) ∥₁) ends

@@ -1,6 +1,6 @@
 -- What a hub that ends its links keeps of them: nothing is told and nothing said any more.
 use Rattle.std.specs.Prelude.{◌≡◌, ◌++◌, ◌∷◌, [], ℕ, true, List, Option, Some, None, map, slice_get, slice_set}
-use Rattle.xd_edge.specs.declared.mode.ModeKind.{ModeKind}
+use Rattle.xd_commands.specs.declared.work.Work.{Work}
 use Rattle.xd_journal.specs.declared.entry.Entry.{Entry}
 use Rattle.xd_journal.specs.declared.news.What.{What}
 use Rattle.xd_reader.specs.declared.news.LinkNews.{LinkNews}
@@ -9,14 +9,13 @@ use Rattle.xd_group_peer.specs.Pages.{Page, taken_of_link}
 
 -- what stays of a page
 pub record Settled : Type 0 where
-  pub suite : List ℕ
-  pub mode : ModeKind
+  pub work : Work
   pub told : List Entry
   pub said : List What
 
 -- what stays of this page
 abbrev pub settled_of : Page → Settled
-settled_of p = record { suite = p.suite; mode = p.mode; told = p.told; said = p.said }
+settled_of p = record { work = p.work; told = p.told; said = p.said }
 
 -- what stays of the page, where there is one
 abbrev pub settled_at : Option Page → Option Settled
@@ -30,7 +29,7 @@ pub record Late (first : List (Option Settled)) (taken : List (Option (List Link
 
 -- the page after one more item of its link, with all that was heard late by then
 abbrev pub late_page : LinkNews → List What → Page → Page
-late_page item late p = record { suite = p.suite; mode = p.mode; taken = p.taken ++ item ∷ []; told = p.told; said = p.said; late = late; known = true }
+late_page item late p = record { work = p.work; taken = p.taken ++ item ∷ []; told = p.told; said = p.said; late = late; known = true }
 
 -- the link at the place was heard late, and no other changed
 abbrev pub LateAt : LinkNews → ℕ → List (Option Page) → List (Option Page) → Type 0
@@ -46,4 +45,4 @@ pub record IsLateAt (pages : List (Option Page)) (k : ℕ) : Type 0 where
 pub record RanAt (first : List (Option Settled)) (k : ℕ) (l : Link) : Type 0 where
   pub settled : Settled
   pub at : slice_get first k ≡ Some (Some settled)
-  pub run : LinkRun settled.suite settled.mode settled.said settled.told l
+  pub run : LinkRun settled.work settled.said settled.told l

@@ -48,14 +48,14 @@ end_next-requires g c =
     let inv = c.loop-number.invariant in
     let size : c.in-Ok.count ≡ length was.diary.workers.items = search rules in
     let there : c.loop-number.number < length was.diary.workers.items = omega (arith, c.loop-number-test.true, size) in
-    record { over = inv.over; there = rw (inv.diary) there; ending = (began_with was.suite was.mode (mails was.links.desk) was.peers.items, rw (inv.diary) inv.ending) }
+    record { over = inv.over; there = rw (inv.diary) there; ending = (began_with was.work (mails was.links.desk) was.peers.items, rw (inv.diary) inv.ending) }
 
 pub loop-number-preserved : goal.loop-number-preserved
 loop-number-preserved g c =
     let was = c.args.self.now.group in
     let inv = c.loop-number.invariant in
     let done = c.in_ok-end_next.ensures in
-    let began : Began = began_with was.suite was.mode (mails was.links.desk) was.peers.items in
+    let began : Began = began_with was.work (mails was.links.desk) was.peers.items in
     record {
       over = done.over;
       ending = rw (inv.diary) at (done.ending began (rw (inv.diary) inv.ending));
@@ -93,7 +93,7 @@ returns-clause-unlinked g c w out =
     let was = c.args.self.now.group in
     let whole = c.in_ok-settle.ensures.whole in
     ∥∥₁_map₂ (was.kept whole) (was.unsaid whole)
-    (λ k u. said_unlinked was.suite was.mode (news_of (mails was.links.desk)) (noted was.diary.calls) (noted was.diary.given) was.diary.workers.items (pages_of was.peers.items) was.diary.fates.items was.diary.waiting.items w was.diary.matched (was.seats whole) out k u)
+    (λ k u. said_unlinked was.work (news_of (mails was.links.desk)) (noted was.diary.calls) (noted was.diary.given) was.diary.workers.items (pages_of was.peers.items) was.diary.fates.items was.diary.waiting.items w was.diary.matched (was.seats whole) out k u)
 
 pub returns-clause-few_refused : goal.returns-clause-few_refused
 returns-clause-few_refused g c = rw (c.loop-number.invariant.crew) (c.args.self.now.group.few c.in_ok-settle.ensures.whole)

@@ -9,8 +9,7 @@ invariant-loop g l = record {
   places : l.self.places ≡ l.fn.self.places;
   first : l.self.children.first ≡ l.fn.self.children.first;
   crew : l.self.group.first ≡ l.fn.self.group.first;
-  suite : l.self.group.suite ≡ l.fn.self.group.suite;
-  mode : l.self.group.mode ≡ l.fn.self.group.mode;
+  work : l.self.group.work ≡ l.fn.self.group.work;
   none_waits : l.self.group.is_whole ≡ true → l.self.group.diary.waiting.items ≡ [];
   whole : l.self.group.is_whole ≡ l.fn.self.group.is_whole;
 }

@@ -56,9 +56,9 @@ returns-in-Linked-clause-ending g c b going =
 
 pub returns-in-Refused-clause-runs : goal.returns-in-Refused-clause-runs
 returns-in-Refused-clause-runs g c b going =
-    unused_so b.suite b.mode (noted c.args.self.now.diary.calls) (noted c.args.self.now.diary.given) c.args.self.now.diary.workers.items c.args.self.now.diary.fates.items c.args.number _ _ (c.in-Some.ensures.at ∙ ap Some (sym c.end_spare-kept.ensures.worker)) (c.fate_at-fate.ensures ∙ ap Some c.in-Refused.is) c.end_spare-kept.ensures.unused
+    unused_so b.work (noted c.args.self.now.diary.calls) (noted c.args.self.now.diary.given) c.args.self.now.diary.workers.items c.args.self.now.diary.fates.items c.args.number _ _ (c.in-Some.ensures.at ∙ ap Some (sym c.end_spare-kept.ensures.worker)) (c.fate_at-fate.ensures ∙ ap Some c.in-Refused.is) c.end_spare-kept.ensures.unused
 
 pub returns-in-Linked-clause-runs : goal.returns-in-Linked-clause-runs
 returns-in-Linked-clause-runs g c b going =
-    linked_so b.suite b.mode b.taken (noted c.args.self.now.diary.calls) (noted c.args.self.now.diary.given) c.args.self.now.diary.workers.items b.pages c.args.self.now.diary.fates.items c.args.number _ _ (c.in-Some.ensures.at ∙ ap Some (sym c.close-closed.ensures.worker)) (c.fate_at-fate.ensures ∙ ap Some c.in-Linked.is)
+    linked_so b.work b.taken (noted c.args.self.now.diary.calls) (noted c.args.self.now.diary.given) c.args.self.now.diary.workers.items b.pages c.args.self.now.diary.fates.items c.args.number _ _ (c.in-Some.ensures.at ∙ ap Some (sym c.close-closed.ensures.worker)) (c.fate_at-fate.ensures ∙ ap Some c.in-Linked.is)
     (c.close-closed.ensures.ran (map settled_at b.pages) going.late) going.kept

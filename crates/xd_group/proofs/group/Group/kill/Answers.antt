@@ -15,7 +15,7 @@ invariant_of-self g c =
       short = was.short;
       kept = λ e. ∥∥₁_map (was.kept e)
           (λ k. rw (c.note_call.ensures.given, c.note_call.ensures.workers)
-          (kept_called was.suite was.mode (news_of (mails was.links.desk)) (noted was.diary.calls) _ (noted was.diary.given) was.diary.workers.items (pages_of was.peers.items) (Kill c.args.worker) c.note_call.ensures.calls (λ v. refl) (λ v. refl) k));
+          (kept_called was.work (news_of (mails was.links.desk)) (noted was.diary.calls) _ (noted was.diary.given) was.diary.workers.items (pages_of was.peers.items) (Kill c.args.worker) c.note_call.ensures.calls (λ v. refl) (λ v. refl) k));
       few = λ e. rw (c.note_call.ensures.fates) (was.few e);
       seats = λ e. rw (c.note_call.ensures.fates) (was.seats e);
       spared = λ e. rw (c.note_call.ensures.fates) (was.spared e);

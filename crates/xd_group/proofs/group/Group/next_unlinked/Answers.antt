@@ -28,7 +28,7 @@ invariant_of-self-2 g c =
       short = was.short;
       kept = λ e. ∥∥₁_map₂ (was.kept e) (was.unsaid e)
           (λ k u. rw (told.calls, told.workers, took.calls, took.workers)
-          (kept_unlinked was.suite was.mode (news_of (mails was.links.desk)) (noted was.diary.calls) (noted was.diary.given) _ was.diary.workers.items (pages_of was.peers.items) c.in-Some.number n refl
+          (kept_unlinked was.work (news_of (mails was.links.desk)) (noted was.diary.calls) (noted was.diary.given) _ was.diary.workers.items (pages_of was.peers.items) c.in-Some.number n refl
           (told.given ∙ ap (λ (l : List News). l ++ n ∷ []) took.given)
           at (rw (← took.calls) c.in-Some-worker_at.ensures.started) (waits_unread (noted was.diary.given) was.diary.workers.items (pages_of was.peers.items) was.diary.waiting.items _ c.in-Some.number n.worker took.waiting at u) k));
       few = λ e. rw (told.fates, took.fates) (was.few e);

@@ -25,13 +25,13 @@ invariant_of-self-2 g c =
       short = was.short;
       kept = λ e. ∥∥₁_map (was.kept e)
           (λ k. rw (last.calls, last.given, last.workers, told.given)
-          (kept_started was.suite was.mode (news_of (mails was.links.desk)) _ (noted was.diary.calls) _ (noted was.diary.given) was.diary.workers.items _ (pages_of was.peers.items) _ c.args.worker c.args.slot none
-          told.calls c.requires.new was.diary.known told.workers (c.in_ok-back.ensures.news was.suite was.mode) seat.pages k));
+          (kept_started was.work (news_of (mails was.links.desk)) _ (noted was.diary.calls) _ (noted was.diary.given) was.diary.workers.items _ (pages_of was.peers.items) _ c.args.worker c.args.slot none
+          told.calls c.requires.new was.diary.known told.workers (c.in_ok-back.ensures.news was.work) seat.pages k));
       few = λ e. rw (last.fates) (few_opened was.diary.fates.items _ c.in_ok-seat.seat.fate none _ _ _ told.fates seat.linked seat.started c.in_ok-back.ensures.crew (was.few e));
-      seats = λ e. rw (last.fates) (opened_seats was.suite was.mode none (pages_of was.peers.items) _ was.diary.fates.items _ c.in_ok-seat.seat.fate seat.pages told.fates seat.linked (was.seats e));
+      seats = λ e. rw (last.fates) (opened_seats was.work none (pages_of was.peers.items) _ was.diary.fates.items _ c.in_ok-seat.seat.fate seat.pages told.fates seat.linked (was.seats e));
       spared = λ e. rw (last.fates) (spared_more (map is_some was.spares.items) _ was.diary.fates.items _ c.in_ok-seat.seat.fate seat.kept told.fates (was.spared e));
       unsaid = λ e. ∥∥₁_map₂ (was.kept e) (was.unsaid e)
           (λ k u. rw (last.given, last.workers, told.given)
-          (unsaid_opened was.suite was.mode (news_of (mails was.links.desk)) (noted was.diary.calls) (noted was.diary.given) was.diary.workers.items _ (pages_of was.peers.items) _ was.diary.waiting.items _ _ c.args.worker c.in-Ok.number (is_linked c.in_ok-seat.seat.fate) none
+          (unsaid_opened was.work (news_of (mails was.links.desk)) (noted was.diary.calls) (noted was.diary.given) was.diary.workers.items _ (pages_of was.peers.items) _ was.diary.waiting.items _ _ c.args.worker c.in-Ok.number (is_linked c.in_ok-seat.seat.fate) none
           told.workers seat.pages last.waiting (ap (λ (v : _). v.items) told.waiting) seat.linked (peer_count was.peers.items c.in-Ok.number at) c.requires.new k u));
     }

@@ -14,7 +14,7 @@ tell_at-requires g c =
     record {
       order = order_there c.args.worker c.args.order.now c.requires.order;
       told = ∥∥₁_map (was.kept c.if-not-self.false)
-          (λ k. told_at was.suite was.mode (news_of (mails was.links.desk)) (noted was.diary.calls) (noted was.diary.given) was.diary.workers.items (pages_of was.peers.items) c.in-Some.number c.args.worker c.requires.told c.in-Some.ensures.some k);
+          (λ k. told_at was.work (news_of (mails was.links.desk)) (noted was.diary.calls) (noted was.diary.given) was.diary.workers.items (pages_of was.peers.items) c.in-Some.number c.args.worker c.requires.told c.in-Some.ensures.some k);
     }
 
 pub invariant_of-self-2 : goal.invariant_of-self-2
@@ -25,7 +25,7 @@ invariant_of-self-2 g c =
       short = was.short;
       kept = λ e. ∥∥₁_map (was.kept whole)
           (λ k. rw (c.note_call.ensures.given, c.note_call.ensures.workers)
-          (kept_told_at was.suite was.mode (news_of (mails was.links.desk)) (noted was.diary.calls) _ (noted was.diary.given) was.diary.workers.items (pages_of was.peers.items) _ c.in-Some.number c.args.worker c.args.order.now
+          (kept_told_at was.work (news_of (mails was.links.desk)) (noted was.diary.calls) _ (noted was.diary.given) was.diary.workers.items (pages_of was.peers.items) _ c.in-Some.number c.args.worker c.args.order.now
           c.note_call.ensures.calls c.in-Some.ensures.some c.requires.told c.requires.order c.in_ok-is_cut.ensures.told k));
       few = λ e. rw (c.note_call.ensures.fates) (was.few whole);
       seats = λ e. rw (c.note_call.ensures.fates, c.in_ok-is_cut.ensures.seats) (was.seats whole);
@@ -39,4 +39,4 @@ pub unreachable-requires : goal.unreachable-requires
 unreachable-requires g c =
     let was = c.args.self.now in
     ∥∥₁_elim (was.kept c.if-not-self.false) never
-    (λ k. told_place was.suite was.mode (news_of (mails was.links.desk)) (noted was.diary.calls) (noted was.diary.given) was.diary.workers.items (pages_of was.peers.items) c.args.worker c.requires.told c.in_default.ensures.none k)
+    (λ k. told_place was.work (news_of (mails was.links.desk)) (noted was.diary.calls) (noted was.diary.given) was.diary.workers.items (pages_of was.peers.items) c.args.worker c.requires.told c.in_default.ensures.none k)

@@ -19,7 +19,7 @@ drain-requires g c =
       late = (
         map settled_at (pages_of was.peers.items),
         ∥∥₁_map (was.kept c.if-not-self.false)
-            (λ k. late_begun was.suite was.mode (news_of (mails was.links.desk)) (noted was.diary.calls) (noted was.diary.given) was.diary.workers.items (pages_of was.peers.items) k),
+            (λ k. late_begun was.work (news_of (mails was.links.desk)) (noted was.diary.calls) (noted was.diary.given) was.diary.workers.items (pages_of was.peers.items) k),
       );
     }
 
@@ -30,9 +30,9 @@ returns-clause-ending g c =
     let done = c.in_ok-drain.ensures in
     record {
       kept = was.kept whole;
-      said = λ k w at is h. ∥∥₁_elim (was.kept whole) (hlevel props) (λ kept. said_lost was.suite was.mode (news_of (mails was.links.desk)) (noted was.diary.calls) (noted was.diary.given) was.diary.workers.items was.peers.items was.diary.fates.items k w kept (was.seats whole) at is h);
+      said = λ k w at is h. ∥∥₁_elim (was.kept whole) (hlevel props) (λ kept. said_lost was.work (news_of (mails was.links.desk)) (noted was.diary.calls) (noted was.diary.given) was.diary.workers.items was.peers.items was.diary.fates.items k w kept (was.seats whole) at is h);
       late = done.late (map settled_at (pages_of was.peers.items))
-          (∥∥₁_map (was.kept whole) (λ k. late_begun was.suite was.mode (news_of (mails was.links.desk)) (noted was.diary.calls) (noted was.diary.given) was.diary.workers.items (pages_of was.peers.items) k));
+          (∥∥₁_map (was.kept whole) (λ k. late_begun was.work (news_of (mails was.links.desk)) (noted was.diary.calls) (noted was.diary.given) was.diary.workers.items (pages_of was.peers.items) k));
       spared = spared_from (map is_some was.spares.items) was.diary.fates.items (was.spared whole);
       ended = ended_from _ was.diary.fates.items (done.seats ∙ was.seats whole) done.ended;
       lost = λ k h e. done.keeps k e;

@@ -23,13 +23,13 @@ invariant_of-self-2 g c =
       short = was.short;
       kept = λ e. ∥∥₁_map (was.kept e)
           (λ k. rw (last.calls, last.given, last.workers, told.given)
-          (kept_started was.suite was.mode (news_of (mails was.links.desk)) _ (noted was.diary.calls) _ (noted was.diary.given) was.diary.workers.items _ (pages_of was.peers.items) _ c.args.worker c.args.slot false
+          (kept_started was.work (news_of (mails was.links.desk)) _ (noted was.diary.calls) _ (noted was.diary.given) was.diary.workers.items _ (pages_of was.peers.items) _ c.args.worker c.args.slot false
           told.calls c.requires.new was.diary.known told.workers c.in_ok-skip.ensures.news c.in_ok-push_none.ensures.pages k));
       few = λ e. rw (last.fates, c.in_ok-skip.ensures.crew) (few_skipped was.diary.fates.items _ _ _ told.fates (was.few e));
-      seats = λ e. rw (last.fates) (opened_seats was.suite was.mode false (pages_of was.peers.items) _ was.diary.fates.items _ Unlinked c.in_ok-push_none.ensures.pages told.fates refl (was.seats e));
+      seats = λ e. rw (last.fates) (opened_seats was.work false (pages_of was.peers.items) _ was.diary.fates.items _ Unlinked c.in_ok-push_none.ensures.pages told.fates refl (was.seats e));
       spared = λ e. rw (last.fates) (spared_more (map is_some was.spares.items) _ was.diary.fates.items _ Unlinked c.in_ok-keep.ensures told.fates (was.spared e));
       unsaid = λ e. ∥∥₁_map₂ (was.kept e) (was.unsaid e)
           (λ k u. rw (last.given, last.workers, told.given)
-          (unsaid_opened was.suite was.mode (news_of (mails was.links.desk)) (noted was.diary.calls) (noted was.diary.given) was.diary.workers.items _ (pages_of was.peers.items) _ was.diary.waiting.items _ _ c.args.worker c.in-Ok.number false false
+          (unsaid_opened was.work (news_of (mails was.links.desk)) (noted was.diary.calls) (noted was.diary.given) was.diary.workers.items _ (pages_of was.peers.items) _ was.diary.waiting.items _ _ c.args.worker c.in-Ok.number false false
           told.workers c.in_ok-push_none.ensures.pages last.waiting (ap (λ (v : _). v.items) told.waiting) refl (peer_count was.peers.items c.in-Ok.number at) c.requires.new k u));
     }

@@ -14,7 +14,7 @@ hear_at-requires g c =
     let took = c.next-number.ensures.news in
     record {
       heard = ∥∥₁_map (was.kept c.if-not-self.false)
-          (λ k. heard_at was.suite was.mode (news_of (mails was.links.desk)) (noted was.diary.calls) (noted was.diary.given) was.diary.workers.items (pages_of was.peers.items) c.next-number.result.0 took.0 took.1 k);
+          (λ k. heard_at was.work (news_of (mails was.links.desk)) (noted was.diary.calls) (noted was.diary.given) was.diary.workers.items (pages_of was.peers.items) c.next-number.result.0 took.0 took.1 k);
     }
 
 pub unreachable-requires : goal.unreachable-requires
@@ -22,7 +22,7 @@ unreachable-requires g c =
     let was = c.args.self.now in
     let took = c.next-number.ensures.news in
     ∥∥₁_elim (was.kept c.if-not-self.false) never
-    (λ k. worker_there was.suite was.mode (news_of (mails was.links.desk)) (noted was.diary.calls) (noted was.diary.given) was.diary.workers.items (pages_of was.peers.items) c.next-number.result.0 took.0 took.1 c.in_default.ensures.none k)
+    (λ k. worker_there was.work (news_of (mails was.links.desk)) (noted was.diary.calls) (noted was.diary.given) was.diary.workers.items (pages_of was.peers.items) c.next-number.result.0 took.0 took.1 c.in_default.ensures.none k)
 
 pub invariant_of-self-2 : goal.invariant_of-self-2
 invariant_of-self-2 g c =
@@ -34,14 +34,14 @@ invariant_of-self-2 g c =
       short = was.short;
       kept = λ e. ∥∥₁_map (was.kept whole)
           (λ k. rw (said.calls, said.workers)
-          (kept_heard was.suite was.mode (news_of (mails was.links.desk)) _ (noted was.diary.calls) (noted was.diary.given) _ was.diary.workers.items (pages_of was.peers.items) _ c.next-number.result.0 c.in-Some.worker c.next-number.result.1 c.in_ok-heard.heard.what c.note_what-news.result took.0
+          (kept_heard was.work (news_of (mails was.links.desk)) _ (noted was.diary.calls) (noted was.diary.given) _ was.diary.workers.items (pages_of was.peers.items) _ c.next-number.result.0 c.in-Some.worker c.next-number.result.1 c.in_ok-heard.heard.what c.note_what-news.result took.0
           took.1 took.2 c.in-Some.ensures.at c.in-Some.ensures.started c.in_ok-heard.ensures.heard said.is said.given k));
       few = λ e. rw (said.fates, c.next-number.ensures.crew) (was.few whole);
       seats = λ e. rw (said.fates, c.in_ok-heard.ensures.seats) (was.seats whole);
       spared = λ e. rw (said.fates) (was.spared whole);
       unsaid = λ e. ∥∥₁_map₂ (was.kept whole) (was.unsaid whole)
           (λ k u. rw (said.workers, said.waiting)
-          (unsaid_step was.suite was.mode (news_of (mails was.links.desk)) (noted was.diary.calls) (noted was.diary.given) _ was.diary.workers.items (pages_of was.peers.items) _ was.diary.waiting.items c.next-number.result.0 c.in-Some.worker took.0 c.in_ok-heard.heard.what c.note_what-news.result
+          (unsaid_step was.work (news_of (mails was.links.desk)) (noted was.diary.calls) (noted was.diary.given) _ was.diary.workers.items (pages_of was.peers.items) _ was.diary.waiting.items c.next-number.result.0 c.in-Some.worker took.0 c.in_ok-heard.heard.what c.note_what-news.result
           took.1 said.given said.is c.in-Some.ensures.at c.in_ok-heard.ensures.seats k u));
     }
 

@@ -20,7 +20,7 @@ invariant_of-self-2 g c =
           (λ h. rw (c.note.ensures, c.note_heard.ensures)
           (subst (λ (l : List What). HeardSo c.end_after-is_closed.new.gateway c.in_ok-news.field-0.is_ended c.end_after-is_closed.result.is_lost (noted was.taken ++ c.args.item ∷ []) l) (on_time said (noted was.late) (option_to_list c.in_ok-news.field-0.news) c.requires.on_time)
           (c.end_after-is_closed.ensures.heard _ _ _ still (c.in_ok-news.ensures.hears (noted was.taken) (said ++ noted was.late) h))));
-      sent = λ e. ∥∥₁_map (was.sent known) (λ s. rw (c.note_heard.ensures) (c.end_after-is_closed.ensures.sent _ _ (noted was.told) said was.is_ended c.in_ok-news.ensures.past still (was.closed known) (rw (c.in_ok-news.ensures.sink) s)));
+      sent = λ e. ∥∥₁_map (was.sent known) (λ s. rw (c.note_heard.ensures) (c.end_after-is_closed.ensures.sent _ (noted was.told) said was.is_ended c.in_ok-news.ensures.past still (was.closed known) (rw (c.in_ok-news.ensures.sink) s)));
       faults = λ e. faults_more said _ c.in_ok-news.field-0.news was.is_lost c.end_after-is_closed.result.is_lost c.note_heard.ensures (was.faults known) c.in_ok-news.ensures.faults (c.end_after-is_closed.ensures.keeps still);
       whole = λ e over. rw (c.note_heard.ensures) (still_whole was.is_ended c.in_ok-news.field-0.is_ended was.is_lost was.is_closed was.work.value (noted was.told) said (noted was.late) c.in_ok-news.field-0.news _ _ _ c.requires.on_time c.in_ok-news.ensures.past c.in_ok-news.ensures.ends (was.whole known) (was.sent known)
           (λ m left h. c.end_after-is_closed.ensures.whole m left (rw (c.in_ok-news.ensures.sink) h)) over);

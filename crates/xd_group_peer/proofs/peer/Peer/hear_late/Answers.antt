@@ -27,7 +27,7 @@ invariant_of-self-2 g c =
           (over.ensures.heard _ _ _ still (c.in_ok-news.ensures.hears (noted was.taken) (said ++ noted was.late) h))));
       sent = λ e. ∥∥₁_map (was.sent known)
           (λ s. subst (λ (l : List What). SentAs over.result.is_lost over.result.is_closed (g.N.Sink.sunk (sink_of over.new.gateway)) (g.N.Sink.faults (sink_of over.new.gateway)) (to_link was.work.value (noted was.told) l)) (append-nil said)
-          (over.ensures.sent _ _ (noted was.told) said was.is_ended stays still (was.closed known) (rw (c.in_ok-news.ensures.sink) s)));
+          (over.ensures.sent _ (noted was.told) said was.is_ended stays still (was.closed known) (rw (c.in_ok-news.ensures.sink) s)));
       faults = λ e h. over.ensures.keeps still (was.faults known h);
       whole = λ e ended. rw (c.note_heard.ensures) (late_whole was.is_ended c.in_ok-news.field-0.is_ended was.is_lost was.is_closed said (noted was.late) c.in_ok-news.field-0.news _ _ _ _ c.in_ok-news.ensures.past c.in_ok-news.ensures.ends (was.whole known) (was.sent known)
           (λ h. over.ensures.whole _ refl (rw (c.in_ok-news.ensures.sink) h)) ended);

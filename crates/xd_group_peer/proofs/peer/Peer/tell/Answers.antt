@@ -22,7 +22,7 @@ invariant_of-self-2 g c =
           heard_kept _ _ _ _ _ _ _ c.in_ok-is_lost.ensures.stands (order_keeps (order_message c.args.order.now) was.is_lost c.in_ok-is_lost.is_lost a b lost now (c.in_ok-is_lost.ensures.writes c.args.order.now c.in_ok-value.ensures.form can)) h);
       sent = λ e. ∥∥₁_map₂ (was.heard known) (was.sent known)
           (λ h s. let can = can_tell was.gateway was.is_ended was.is_lost (noted was.taken) (noted was.said) (noted was.late) c.requires.on_time c.requires.going h in
-          sent_order was.is_lost c.in_ok-is_lost.is_lost was.is_closed a b _ _ (noted was.told) _ c.args.order.now (noted was.said) lost now c.note.ensures (not_left (noted was.said) c.requires.going) s (c.in_ok-is_lost.ensures.writes c.args.order.now c.in_ok-value.ensures.form can));
+          sent_order was.is_lost c.in_ok-is_lost.is_lost was.is_closed a b _ (noted was.told) _ c.args.order.now (noted was.said) lost now c.note.ensures (not_left (noted was.said) c.requires.going) s (c.in_ok-is_lost.ensures.writes c.args.order.now c.in_ok-value.ensures.form can));
       faults = λ e h. ∥∥₁_elim (was.heard known) (hlevel props)
           (λ k. let can = can_tell was.gateway was.is_ended was.is_lost (noted was.taken) (noted was.said) (noted was.late) c.requires.on_time c.requires.going k in
           order_keeps (order_message c.args.order.now) was.is_lost c.in_ok-is_lost.is_lost a b lost now (c.in_ok-is_lost.ensures.writes c.args.order.now c.in_ok-value.ensures.form can) (was.faults known h));
