@@ -22,10 +22,10 @@ use Rattle.xd_session.specs.History.{Run as SoFar, input_of, run_of, said_by}
 use Rattle.xd_session.proofs.Steps.{run-more, sound-run}
 use Rattle.xd_system.specs.Moment.{AfterStart, WasBegun, IsFirstPart, IsHonestAt, LinkNow, TookOf, news_on_way, told_so_far}
 use Rattle.xd_system.specs.Own.{order_told, told_to}
-use Rattle.xd_system.specs.Steps.{MayCome, Ordered, SuiteRead, NoSuite, Printed, Ended, SystemStep, IsCalled, Comes, IsTaken, Cut, IsGone, Unstarted, Reaches, Fresh, Then, ShippedAreHonest, System, fresh_system, heard_end, is_link_over, system_with_link, system_with_news, with_call, link_cut, with_input}
+use Rattle.xd_system.specs.Steps.{MayCome, Ordered, SuiteRead, SuitePicked, NoSuite, Printed, Ended, SystemStep, IsCalled, Comes, IsTaken, Cut, IsGone, Unstarted, Reaches, Fresh, Then, ShippedAreHonest, System, fresh_system, heard_end, is_link_over, system_with_link, system_with_news, with_call, link_cut, with_input}
 use Rattle.xd_system.specs.Tells.{comes_in_run, order_in, orders_of, tells}
 use Rattle.xd_system.proofs.Runs.{added, entries-added, member-then}
-use Rattle.xd_system.proofs.Suites.{suite-ids}
+use Rattle.xd_system.proofs.Suites.{picked-ids, suite-ids}
 use Rattle.xd_system.proofs.Told.{last-split}
 use Rattle.std.proofs.lemmas.List.Elements.{filter_map-append}
 use Rattle.xd_system.proofs.Parts.{tells-part, begins-then}
@@ -136,6 +136,7 @@ module _ (settings : Settings) (s : System) (w : ℕ) (k : Shipped settings s w)
   comes-so : (i : Input) → MayCome settings s w i → comes_in_run i ≡ true
   comes-so i (Ordered o later e) = refl
   comes-so i (SuiteRead bytes tests mode suite) = suite-ids bytes tests mode suite
+  comes-so i (SuitePicked bytes tests mode ids rest suite) = picked-ids bytes tests mode ids rest suite
   comes-so i (NoSuite text) = refl
   comes-so i (Printed bytes) = refl
   comes-so i (Ended outcome ms) = refl
@@ -145,6 +146,7 @@ module _ (settings : Settings) (s : System) (w : ℕ) (k : Shipped settings s w)
   orders-so i (Ordered o later e) =
       begins-next (orders_of link.given) (told_to w (run_of settings s.taken).entries) o later k.honest.orders e
   orders-so i (SuiteRead bytes tests mode suite) = no-order
+  orders-so i (SuitePicked bytes tests mode ids rest suite) = no-order
   orders-so i (NoSuite text) = no-order
   orders-so i (Printed bytes) = no-order
   orders-so i (Ended outcome ms) = no-order

@@ -1,9 +1,11 @@
--- The ids of a suite file are ids that a worker may collect.
-use Rattle.std.proofs.Common.{◌≡◌, ℕ, ◌+◌, List, [], ◌∷◌, ◌++◌, length, Bool, true, false, not, ◌&&◌, ◌||◌, refl, ap, sym, ◌∙◌, arith}
+-- The ids of a suite file, and those of the tests that are picked of it, are ids that a worker may collect.
+use Rattle.std.proofs.Common.{◌≡◌, ℕ, ◌+◌, ◌≤◌, List, [], ◌∷◌, ◌++◌, length, All, Bool, true, false, not, ◌&&◌, ◌||◌, refl, ap, sym, subst, ◌∙◌, arith}
 use Rattle.std.specs.Prelude.{Option, Some, None, nat_le, is_some, option_map, unwrap_or, if◌then◌else◌, codes}
 use Rattle.std.specs.List.{list_all, list_any}
 use Rattle.std.specs.Option.{option_or}
 use Rattle.std.specs.Str.{bytes_eq, chars}
+use Rattle.std.proofs.lemmas.Bool.{le-leb, leb-true}
+use Rattle.std.proofs.lemmas.List.Elements.{All-cons, All-head, All-nil, All-tail}
 use Rattle.std.proofs.lemmas.List.Folds.{list_any-append}
 use Rattle.toml.specs.Data.{Items, no_items, item, Members}
 use Rattle.xd_edge.specs.declared.mode.ModeKind.{ModeKind}
@@ -18,9 +20,11 @@ use Rattle.xd_suite.specs.declared.fault.SuiteWhat.{SuiteWhat}
 use Rattle.xd_suite.specs.declared.fault.SuiteWhat.TheVariants.{UnknownKey, WrongKind, TooMany, Missing, BadId}
 use Rattle.xd_suite.specs.declared.fault.SuiteFault.{SuiteFault}
 use Rattle.xd_suite.specs.Faults.{count_items, fault_of_ids, fault_of_test, each_item_holds, fault_of_tests, has_good_ids, has_group_kind, has_kinds, has_only_keys, has_test_kind, is_array_with, is_id_if_any, is_suite_key, is_test_key, is_toml_text, lacks_key, of_file, of_test, repeat_from}
+use Rattle.xd_suite.specs.Picked.{picked}
 use Rattle.xd_suite.specs.Suite.{IsSuiteOf}
 use Rattle.xd_suite.specs.Tests.{array_at, group_id, id_by_mode, ids_by_mode, members_of, test_items, test_of, tests_of, text_at, with_group}
 use Rattle.xd_suite.proofs.NewIds.{no_repeat}
+use Rattle.xd_suite.proofs.Picked.{All-picked, few_picked, new_ids_picked}
 use Rattle.xd_system.specs.Tells.{are_suite_ids}
 
 -- texts
@@ -140,17 +144,43 @@ no-fault : (n : ℕ) (o : Option SuiteWhat) → option_map (of_test n) o ≡ Non
 no-fault n None h = refl
 no-fault n (Some w) h = absurd cc
 
-all-ids : (mode : ModeKind) (n : ℕ) (ds : Items) → fault_of_tests n ds ≡ None
-    → list_all is_id (ids_by_mode mode (tests_of ds)) ≡ true
-all-ids mode n no_items h = refl
-all-ids mode n (item d ds) h =
-    let p = neither-fault (option_map (of_test n) (fault_of_test (members_of d))) (fault_of_tests (n + 1) ds) h in
-    let sound = ids-sound (members_of d) (no-fault n (fault_of_test (members_of d)) p.0) in
-    and (in-mode mode (test_of (members_of d)) sound.0 sound.1) (all-ids mode (n + 1) ds p.1)
+-- the test has an id, by itself and with its group
+abbrev HasIds : Test → Type 0
+HasIds t = (is_id t.id ≡ true) × (is_id (group_id t) ≡ true)
 
-count-ids : (mode : ModeKind) (ds : Items) → length (ids_by_mode mode (tests_of ds)) ≡ count_items ds
-count-ids mode no_items = refl
-count-ids mode (item d ds) = (let rest = count-ids mode ds in omega (arith, rest))
+all-sound : (n : ℕ) (ds : Items) → fault_of_tests n ds ≡ None → All HasIds (tests_of ds)
+all-sound n no_items h = All-nil HasIds
+all-sound n (item d ds) h =
+    let p = neither-fault (option_map (of_test n) (fault_of_test (members_of d))) (fault_of_tests (n + 1) ds) h in
+    All-cons HasIds (test_of (members_of d)) (tests_of ds)
+    (ids-sound (members_of d) (no-fault n (fault_of_test (members_of d)) p.0)) (all-sound (n + 1) ds p.1)
+
+count-tests : (ds : Items) → length (tests_of ds) ≡ count_items ds
+count-tests no_items = refl
+count-tests (item d ds) = (let rest = count-tests ds in omega (arith, rest))
+
+-- tests of a suite: they are few enough, each has an id, and none is repeated
+
+record AreTests (ts : List Test) : Type 0 where
+  few : length ts ≤ most_tests
+  sound : All HasIds ts
+  once : fault_of_ids ts ≡ None
+
+all-ids : (mode : ModeKind) (ts : List Test) → All HasIds ts → list_all is_id (ids_by_mode mode ts) ≡ true
+all-ids mode [] h = refl
+all-ids mode (t ∷ ts) h =
+    let here = All-head HasIds t ts h in
+    and (in-mode mode t here.0 here.1) (all-ids mode ts (All-tail HasIds t ts h))
+
+count-ids : (mode : ModeKind) (ts : List Test) → length (ids_by_mode mode ts) ≡ length ts
+count-ids mode [] = refl
+count-ids mode (t ∷ ts) = (let rest = count-ids mode ts in omega (arith, rest))
+
+ids-of-tests : (mode : ModeKind) (ts : List Test) → AreTests ts → are_suite_ids (ids_by_mode mode ts) ≡ true
+ids-of-tests mode ts a =
+    let few = ap (λ (n : ℕ). nat_le n most_tests) (count-ids mode ts) ∙ le-leb (length ts) most_tests a.few in
+    let once = (unrepeated 0 [] (ids_by_mode mode ts) (no_repeat ts a.once mode)).0 in
+    and (and few (all-ids mode ts a.sound)) once
 
 -- a file that breaks no rule
 
@@ -162,14 +192,28 @@ sound-file true false c o h = absurd cc
 sound-file true true false o h = absurd cc
 sound-file true true true o h = (refl, h)
 
--- The ids of each suite file, in each mode, are such as a worker may collect.
-pub suite-ids : (bytes : List ℕ) (tests : List Test) (mode : ModeKind) → IsSuiteOf bytes tests
-    → are_suite_ids (ids_by_mode mode tests) ≡ true
-suite-ids bytes tests mode s =
+tests-of-suite : (bytes : List ℕ) (tests : List Test) → IsSuiteOf bytes tests → AreTests tests
+tests-of-suite bytes tests s =
     let ds = test_items s.members in
     let good = sound-file (has_only_keys is_suite_key s.members) (has_test_kind s.members) (nat_le (count_items ds) most_tests)
     (option_or (fault_of_tests 0 ds) (fault_of_ids (tests_of ds))) s.good in
     let faults = neither-fault (fault_of_tests 0 ds) (fault_of_ids (tests_of ds)) good.1 in
-    let once = (unrepeated 0 [] (ids_by_mode mode (tests_of ds)) (no_repeat (tests_of ds) faults.1 mode)).0 in
-    ap (λ (ts : List Test). are_suite_ids (ids_by_mode mode ts)) s.listed
-    ∙ and (and (ap (λ (n : ℕ). nat_le n most_tests) (count-ids mode ds) ∙ good.0) (all-ids mode 0 ds faults.0)) once
+    let count = count-tests ds in
+    let few = leb-true (count_items ds) most_tests good.0 in
+    subst AreTests (sym s.listed) (record { few = omega (arith, count, few); sound = all-sound 0 ds faults.0; once = faults.1 })
+
+-- The ids of each suite file, in each mode, are such as a worker may collect.
+pub suite-ids : (bytes : List ℕ) (tests : List Test) (mode : ModeKind) → IsSuiteOf bytes tests
+    → are_suite_ids (ids_by_mode mode tests) ≡ true
+suite-ids bytes tests mode s = ids-of-tests mode tests (tests-of-suite bytes tests s)
+
+-- So are those of the tests that are picked of it.
+pub picked-ids : (bytes : List ℕ) (tests : List Test) (mode : ModeKind) (ids : List (List ℕ)) (rest : Bool)
+    → IsSuiteOf bytes tests → are_suite_ids (ids_by_mode mode (picked ids rest tests)) ≡ true
+picked-ids bytes tests mode ids rest s =
+    let a = tests-of-suite bytes tests s in
+    ids-of-tests mode (picked ids rest tests) (record {
+      few = few_picked ids rest tests a.few;
+      sound = All-picked ids rest tests HasIds a.sound;
+      once = new_ids_picked ids rest tests a.once;
+    })

@@ -18,6 +18,7 @@ use Rattle.xd_worker_tests.specs.declared.input.Input.{Input}
 use Rattle.xd_worker_tests.specs.declared.input.Input.TheVariants as input
 use Rattle.xd_session.specs.History.{said_by}
 use Rattle.xd_suite.specs.declared.test.Test.{Test}
+use Rattle.xd_suite.specs.Picked.{picked}
 use Rattle.xd_suite.specs.Suite.{IsSuiteOf}
 use Rattle.xd_suite.specs.Tests.{ids_by_mode}
 use Rattle.xd_system.specs.Moment.{IsHonestAt, LinkNow, WasBegun, news_on_way, orders_on_way}
@@ -66,12 +67,15 @@ abbrev pub heard_end : System → ℕ → Bool
 heard_end s w = list_any is_link_over (said_by w s.taken)
 
 -- What may come to the call of a worker: the next order that is on the way to it, the ids of its suite file in
--- the mode of the run, the reason why it has no suite, and output and the end of a program.
+-- the mode of the run, or those of the tests that are picked of it, the reason why it has no suite, and output and
+-- the end of a program.
 pub data MayCome (settings : Settings) (s : System) (w : ℕ) : Input → Type 0 where
   Ordered : (o : Order) (later : List Order) → orders_on_way settings s.taken w (s.links w) ≡ o ∷ later
       → MayCome settings s w (input.Command (Some o))
   SuiteRead : (bytes : List ℕ) (tests : List Test) (mode : ModeKind) → IsSuiteOf bytes tests
       → MayCome settings s w (input.Suite (ids_by_mode mode tests))
+  SuitePicked : (bytes : List ℕ) (tests : List Test) (mode : ModeKind) (ids : List (List ℕ)) (rest : Bool)
+      → IsSuiteOf bytes tests → MayCome settings s w (input.Suite (ids_by_mode mode (picked ids rest tests)))
   NoSuite : (text : List ℕ) → MayCome settings s w (input.SuiteRefused text)
   Printed : (bytes : List ℕ) → MayCome settings s w (input.Output bytes)
   Ended : (outcome : Outcome) (ms : ℕ) → MayCome settings s w (input.Done outcome ms)

@@ -2,19 +2,18 @@
 use Rattle.std.proofs.Common.{◌≡◌, ◌⊎◌, ℕ, List, [], ◌∷◌, ◌++◌, Bool, true, false, ◌||◌, Option, Some, None, Result, refl, ap, sym, subst, ◌∙◌, append_assoc, append-nil, inl, inr}
 use Rattle.std.specs.Prelude.{map, option_and_then}
 use Rattle.std.specs.List.{cons_option, filter_map}
-use Rattle.xd_edge.specs.declared.mode.ModeKind.{ModeKind}
 use Rattle.xd_value.specs.Canonical.{dumped}
 use Rattle.xd_value.specs.declared.writing.DumpFault.{DumpFault}
 use Rattle.xd_factory.specs.Said.{Data, Exec}
 use Rattle.xd_frame.specs.Message.{MessageView}
 use Rattle.xd_journal.specs.declared.entry.Entry.{Entry}
-use Rattle.xd_report_phrases.specs.Names.{mode_text}
-use Rattle.xd_commands.specs.Limits.{IsFew, run_tests_call}
+use Rattle.xd_commands.specs.Limits.{IsFew}
 use Rattle.xd_commands.specs.Orders.{IsOrder, order_of, order_tree}
 use Rattle.xd_commands.specs.declared.order.Order.{Order}
+use Rattle.xd_commands.specs.declared.work.Work.{Work}
 use Rattle.xd_commands.proofs.Fitting.{order_dumped}
 use Rattle.xd_gateway.specs.News.{IsNewsOf}
-use Rattle.xd_group_peer.specs.ToLink.{call_message, order_message, payload_message}
+use Rattle.xd_group_peer.specs.ToLink.{call_message, order_message, payload_message, work_call}
 use Rattle.xd_worker.specs.declared.input.WorkerInput.{WorkerInput}
 use Rattle.xd_worker.specs.declared.input.WorkerInput.TheVariants.{Message, SuiteBytes, SuiteTooLarge, SuiteUnread, Output, ChildDone, LinkEnd}
 use Rattle.xd_worker.specs.History.{HeardInput, MessageSays, worker_after}
@@ -83,35 +82,35 @@ waits (i ∷ is) (g ∷ h) heard goes none =
 -- ---- all that came
 
 -- the first message is the call, and the others are of the first orders
-record HasCome (suite : List ℕ) (mode : ModeKind) (os : List Order) (inputs : List WorkerInput) (h : List HeardInput) : Type 0 where
+record HasCome (work : Work) (os : List Order) (inputs : List WorkerInput) (h : List HeardInput) : Type 0 where
   taken : List Order
   later : List Order
   split : os ≡ taken ++ later
-  come : messages_in inputs ≡ call_message suite mode ∷ map say taken
+  come : messages_in inputs ≡ call_message work ∷ map say taken
   served : Served taken h
 
-abbrev Stand : List ℕ → ModeKind → List Order → List WorkerInput → List HeardInput → Type 0
-Stand suite mode os inputs h = ((messages_in inputs ≡ []) × (h ≡ [])) ⊎ HasCome suite mode os inputs h
+abbrev Stand : Work → List Order → List WorkerInput → List HeardInput → Type 0
+Stand work os inputs h = ((messages_in inputs ≡ []) × (h ≡ [])) ⊎ HasCome work os inputs h
 
-module _ (suite : List ℕ) (mode : ModeKind) (os : List Order) (c : CanBeCalled suite mode) (sayable : AreSayable os) where
+module _ (work : Work) (os : List Order) (c : CanBeCalled work) (sayable : AreSayable os) where
   abbrev all : List MessageView
-  all = call_message suite mode ∷ map say os
+  all = call_message work ∷ map say os
 
   -- the call comes
-  comes_first : (i : WorkerInput) (is : List WorkerInput) (g : HeardInput) → messages_in is ≡ [] → IsHeard (worker_after []) i g → is_link_end i ≡ false → IsFirstPart (messages_in is ++ message_in i) all → Stand suite mode os (i ∷ is) (g ∷ [])
+  comes_first : (i : WorkerInput) (is : List WorkerInput) (g : HeardInput) → messages_in is ≡ [] → IsHeard (worker_after []) i g → is_link_end i ≡ false → IsFirstPart (messages_in is ++ message_in i) all → Stand work os (i ∷ is) (g ∷ [])
   comes_first (Message m) is g none x goes p =
-      let first : call_message suite mode ∷ map say os ≡ m ∷ p.0 = p.1 ∙ ap (λ (l : List MessageView). (l ++ m ∷ []) ++ p.0) none in
-      let same : call_message suite mode ≡ m = (let z = first in cc) in
+      let first : call_message work ∷ map say os ≡ m ∷ p.0 = p.1 ∙ ap (λ (l : List MessageView). (l ++ m ∷ []) ++ p.0) none in
+      let same : call_message work ≡ m = (let z = first in cc) in
       inr (record {
         taken = [];
         later = os;
         split = refl;
         come = ap (λ (l : List MessageView). l ++ m ∷ []) none ∙ ap (λ (y : MessageView). y ∷ []) (sym same);
-        served = first_served suite mode g c (says g.came refl (subst (λ (y : MessageView). MessageSays y g.came) (sym same) x.is));
+        served = first_served work g c (says g.came refl (subst (λ (y : MessageView). MessageSays y g.came) (sym same) x.is));
       })
     where
-      says : (came : Came) → g.came ≡ came → MessageSays (call_message suite mode) came → came ≡ Told (Exec 1 (run_tests_call suite (mode_text mode)))
-      says (Told said) e q = ap Told (call_says suite mode said c q)
+      says : (came : Came) → g.came ≡ came → MessageSays (call_message work) came → came ≡ Told (Exec 1 (work_call work))
+      says (Told said) e q = ap Told (call_says work said c q)
       says (SuiteRead ts) e q = absurd q
       says (NoSuite text) e q = absurd q
       says (Printed b) e q = absurd q
@@ -125,12 +124,12 @@ module _ (suite : List ℕ) (mode : ModeKind) (os : List Order) (c : CanBeCalled
   comes_first LinkEnd is g none x goes p = absurd (none_due LinkEnd goes refl x.due)
 
   -- an order comes
-  order_came : (m : MessageView) (is : List WorkerInput) (g : HeardInput) (h : List HeardInput) (a : HasCome suite mode os is h) → IsHeard (worker_after h) (Message m) g → IsFirstPart (messages_in is ++ m ∷ []) all → HasCome suite mode os (Message m ∷ is) (g ∷ h)
+  order_came : (m : MessageView) (is : List WorkerInput) (g : HeardInput) (h : List HeardInput) (a : HasCome work os is h) → IsHeard (worker_after h) (Message m) g → IsFirstPart (messages_in is ++ m ∷ []) all → HasCome work os (Message m ∷ is) (g ∷ h)
   order_came m is g h a x p = next a.later refl
     where
       rest : map say a.later ≡ m ∷ p.0
-      rest = same_rest (call_message suite mode ∷ map say a.taken) (map say a.later) (m ∷ p.0) (
-          ap (λ (l : List MessageView). call_message suite mode ∷ l) (sym (map_more a.taken a.later) ∙ ap (map say) (sym a.split)) ∙ p.1
+      rest = same_rest (call_message work ∷ map say a.taken) (map say a.later) (m ∷ p.0) (
+          ap (λ (l : List MessageView). call_message work ∷ l) (sym (map_more a.taken a.later) ∙ ap (map say) (sym a.split)) ∙ p.1
           ∙ append_assoc (messages_in is) (m ∷ []) p.0 ∙ ap (λ (l : List MessageView). l ++ m ∷ p.0) a.come
           )
 
@@ -142,7 +141,7 @@ module _ (suite : List ℕ) (mode : ModeKind) (os : List Order) (c : CanBeCalled
       says o (ChildEnded outcome ms) e h1 h2 q = absurd q
       says o LinkEnded e h1 h2 q = absurd q
 
-      next : (later : List Order) → a.later ≡ later → HasCome suite mode os (Message m ∷ is) (g ∷ h)
+      next : (later : List Order) → a.later ≡ later → HasCome work os (Message m ∷ is) (g ∷ h)
       next [] e = absurd (let z : [] ≡ m ∷ p.0 = ap (map say) (sym e) ∙ rest in cc)
       next (o ∷ later) e =
           let first : say o ∷ map say later ≡ m ∷ p.0 = ap (map say) (sym e) ∙ rest in
@@ -152,11 +151,11 @@ module _ (suite : List ℕ) (mode : ModeKind) (os : List Order) (c : CanBeCalled
             taken = a.taken ++ o ∷ [];
             later = later;
             split = a.split ∙ (ap (λ (l : List Order). a.taken ++ l) e ∙ sym (append_assoc a.taken (o ∷ []) later));
-            come = ap (λ (l : List MessageView). l ++ m ∷ []) a.come ∙ ap (λ (l : List MessageView). call_message suite mode ∷ l) (ap (λ (y : MessageView). map say a.taken ++ y ∷ []) (sym same) ∙ sym (map_more a.taken (o ∷ [])));
+            come = ap (λ (l : List MessageView). l ++ m ∷ []) a.come ∙ ap (λ (l : List MessageView). call_message work ∷ l) (ap (λ (y : MessageView). map say a.taken ++ y ∷ []) (sym same) ∙ sym (map_more a.taken (o ∷ [])));
             served = comes_order a.taken h a.served g o ok.0 (says o g.came refl ok.0 ok.1 (subst (λ (y : MessageView). MessageSays y g.came) (sym same) x.is)) x.counts;
           }
 
-  other_came : (i : WorkerInput) (is : List WorkerInput) (g : HeardInput) (h : List HeardInput) → HasCome suite mode os is h → IsHeard (worker_after h) i g → IsGiven g.came → is_link_end i ≡ false → message_in i ≡ [] → HasCome suite mode os (i ∷ is) (g ∷ h)
+  other_came : (i : WorkerInput) (is : List WorkerInput) (g : HeardInput) (h : List HeardInput) → HasCome work os is h → IsHeard (worker_after h) i g → IsGiven g.came → is_link_end i ≡ false → message_in i ≡ [] → HasCome work os (i ∷ is) (g ∷ h)
   other_came i is g h a x ok goes none = record {
     taken = a.taken;
     later = a.later;
@@ -165,7 +164,7 @@ module _ (suite : List ℕ) (mode : ModeKind) (os : List Order) (c : CanBeCalled
     served = comes_other a.taken h a.served g i x ok goes none;
   }
 
-  one_came : (i : WorkerInput) (is : List WorkerInput) (g : HeardInput) (h : List HeardInput) → HasCome suite mode os is h → IsHeard (worker_after h) i g → IsGiven g.came → is_link_end i ≡ false → IsFirstPart (messages_in is ++ message_in i) all → HasCome suite mode os (i ∷ is) (g ∷ h)
+  one_came : (i : WorkerInput) (is : List WorkerInput) (g : HeardInput) (h : List HeardInput) → HasCome work os is h → IsHeard (worker_after h) i g → IsGiven g.came → is_link_end i ≡ false → IsFirstPart (messages_in is ++ message_in i) all → HasCome work os (i ∷ is) (g ∷ h)
   one_came (Message m) is g h a x ok goes p = order_came m is g h a x p
   one_came (SuiteBytes b) is g h a x ok goes p = other_came (SuiteBytes b) is g h a x ok goes refl
   one_came SuiteTooLarge is g h a x ok goes p = other_came SuiteTooLarge is g h a x ok goes refl
@@ -174,7 +173,7 @@ module _ (suite : List ℕ) (mode : ModeKind) (os : List Order) (c : CanBeCalled
   one_came (ChildDone outcome ms) is g h a x ok goes p = other_came (ChildDone outcome ms) is g h a x ok goes refl
   one_came LinkEnd is g h a x ok goes p = other_came LinkEnd is g h a x ok goes refl
 
-  all_come : (inputs : List WorkerInput) (h : List HeardInput) → AreHeardInputs inputs h → AreGiven h → has_link_end inputs ≡ false → IsFirstPart (messages_in inputs) all → Stand suite mode os inputs h
+  all_come : (inputs : List WorkerInput) (h : List HeardInput) → AreHeardInputs inputs h → AreGiven h → has_link_end inputs ≡ false → IsFirstPart (messages_in inputs) all → Stand work os inputs h
   all_come [] [] heard ok goes p = inl (refl, refl)
   all_come [] (g ∷ h) heard ok goes p = absurd heard
   all_come (i ∷ is) [] heard ok goes p = absurd heard
@@ -183,9 +182,9 @@ module _ (suite : List ℕ) (mode : ModeKind) (os : List Order) (c : CanBeCalled
       end_no : is_link_end i ≡ false
       end_no = or_first (is_link_end i) (has_link_end is) goes
 
-      by_rest : Stand suite mode os is h → Stand suite mode os (i ∷ is) (g ∷ h)
+      by_rest : Stand work os is h → Stand work os (i ∷ is) (g ∷ h)
       by_rest (inl none) =
-          subst (λ (l : List HeardInput). Stand suite mode os (i ∷ is) (g ∷ l)) (sym none.1) (comes_first i is g none.0 (subst (λ (l : List HeardInput). IsHeard (worker_after l) i g) none.1 heard.0) end_no p)
+          subst (λ (l : List HeardInput). Stand work os (i ∷ is) (g ∷ l)) (sym none.1) (comes_first i is g none.0 (subst (λ (l : List HeardInput). IsHeard (worker_after l) i g) none.1 heard.0) end_no p)
       by_rest (inr a) = inr (one_came i is g h a heard.0 ok.0 end_no p)
 
 -- ---- the law
@@ -202,15 +201,15 @@ orders_said (e ∷ orders) ok = by_order (order_of e) (orders_said orders) ok
         ∙ ap (λ (l : List MessageView). say o ∷ l) (more k.1)
 
 pub says_what_it_tells : SaysWhatItTells
-says_what_it_tells suite mode orders inputs h c sayable heard ok goes p some = by_stand (all_come suite mode os c sayable inputs h heard ok goes told)
+says_what_it_tells work orders inputs h c sayable heard ok goes p some = by_stand (all_come work os c sayable inputs h heard ok goes told)
   where
     os : List Order
     os = filter_map order_of orders
 
-    told : IsFirstPart (messages_in inputs) (call_message suite mode ∷ map say os)
-    told = (p.0, ap (λ (l : List MessageView). call_message suite mode ∷ l) (sym (orders_said orders sayable) ∙ sym (append-nil (filter_map order_message orders))) ∙ p.1)
+    told : IsFirstPart (messages_in inputs) (call_message work ∷ map say os)
+    told = (p.0, ap (λ (l : List MessageView). call_message work ∷ l) (sym (orders_said orders sayable) ∙ sym (append-nil (filter_map order_message orders))) ∙ p.1)
 
-    by_stand : Stand suite mode os inputs h → (s : Service) × ((worker_after h).duties.service ≡ Some s) × IsHeardAsCalled os h s.given
+    by_stand : Stand work os inputs h → (s : Service) × ((worker_after h).duties.service ≡ Some s) × IsHeardAsCalled os h s.given
     by_stand (inl none) = absurd (some none.0)
     by_stand (inr a) = (
       a.served.service,

@@ -1,5 +1,5 @@
 -- What each input after the call does at both ends.
-use Rattle.std.proofs.Common.{◌≡◌, ℕ, ◌≤◌, List, [], ◌∷◌, ◌++◌, length, Bool, true, false, ◌&&◌, Option, Some, None, Result, Ok, Err, refl, ap, sym, subst, ◌∙◌, append_assoc, append-nil, arith}
+use Rattle.std.proofs.Common.{◌≡◌, ℕ, ◌≤◌, List, [], ◌∷◌, ◌++◌, length, All, Bool, true, false, ◌&&◌, Option, Some, None, Result, Ok, Err, refl, ap, sym, subst, ◌∙◌, append_assoc, append-nil, arith}
 use Rattle.std.specs.Prelude.{◌==◌, codes, map, pos, nat_le, option_to_list, if◌then◌else◌}
 use Rattle.std.specs.List.{list_all}
 use Rattle.std.specs.Str.{all_scalars}
@@ -7,6 +7,7 @@ use lib.Utf8.{scalar}
 use Rattle.std.proofs.lemmas.Bool.{and_parts, leb-true}
 use Rattle.std.proofs.lemmas.Bool.Decides.{nat_tests}
 use Rattle.std.proofs.lemmas.Grind.{common_steps}
+use Rattle.std.proofs.lemmas.List.Elements.{All-cons, All-head, All-nil, All-tail}
 use Rattle.xd_edge.specs.Ids.{is_id}
 use Rattle.xd_edge.specs.Limits.{most_tests}
 use Rattle.xd_edge.specs.declared.mode.ModeKind.{ModeKind}
@@ -25,8 +26,10 @@ use Rattle.xd_factory.specs.SideTable.{Counts, answer, heard_of_message}
 use Rattle.xd_frame.specs.Message.{MessageView}
 use Rattle.xd_journal.specs.declared.news.What.TheVariants as what
 use Rattle.xd_suite.specs.declared.test.Test.{Test}
+use Rattle.xd_suite.specs.Picked.{picked}
 use Rattle.xd_suite.specs.Suite.{IsSuiteOf}
 use Rattle.xd_suite.specs.Tests.{id_by_mode, ids_by_mode, with_group}
+use Rattle.xd_suite.proofs.Picked.{All-picked}
 use Rattle.xd_run.specs.Proper.{no_text_twice}
 use Rattle.xd_commands.specs.Events.{collection_tree}
 use Rattle.xd_commands.specs.Kwargs.{AreIndices}
@@ -34,6 +37,7 @@ use Rattle.xd_commands.specs.Limits.{IsFew}
 use Rattle.xd_commands.specs.Orders.{IsOrder, order_tree, tree_order}
 use Rattle.xd_commands.specs.declared.order.Order.{Order}
 use Rattle.xd_commands.specs.declared.order.Order.TheVariants.{RunTests, RunAll, Steal, Shutdown}
+use Rattle.xd_commands.specs.declared.work.Pick.{Pick}
 use Rattle.xd_commands.proofs.Fitting.{order_dumped}
 use Rattle.xd_commands.proofs.ReadBack.{order_read}
 use Rattle.xd_gateway.specs.Calls.{item_message}
@@ -46,10 +50,10 @@ use Rattle.xd_worker.specs.declared.input.WorkerInput.TheVariants.{Message, Suit
 use Rattle.xd_worker.specs.History.{HeardInput, IsSuite, all_said, table_after, turn_by, worker_after}
 use Rattle.xd_worker.specs.Inputs.{IsHeard, is_link_end, message_in}
 use Rattle.xd_worker.specs.Talk.{Talk}
-use Rattle.xd_worker.specs.Turns.{Came, Told, SuiteRead, NoSuite, Printed, ChildEnded, LinkEnded, at_talk, did, did_unless, echoed, fed, ids_to_collect, is_ok, is_service, suite_input, worker_turned}
+use Rattle.xd_worker.specs.Turns.{Came, Told, SuiteRead, NoSuite, Printed, ChildEnded, LinkEnded, at_talk, chosen, did, did_unless, echoed, fed, ids_to_collect, is_ok, is_service, suite_input, tests_to_run, worker_turned}
 use Rattle.xd_worker.specs.Worker.{Service, Worker, WorkerTurn, worker_turn_of}
 use Rattle.xd_system.specs.Tells.{are_suite_ids, comes_in_run, order_in, orders_of, tells}
-use Rattle.xd_system.proofs.Suites.{suite-ids}
+use Rattle.xd_system.proofs.Suites.{picked-ids, suite-ids}
 use Rattle.xd_system_messages.specs.Given.{IsGiven, is_text_if_any, is_text_test}
 use Rattle.xd_system_messages.proofs.Asks.{IsErrorText, IsGivenInput, is_over}
 use Rattle.xd_system_messages.proofs.Reasons.{reason_text}
@@ -244,19 +248,37 @@ texts_in : (mode : ModeKind) (ts : List Test) → list_all is_text_test ts ≡ t
 texts_in mode [] h = refl
 texts_in mode (t ∷ ts) h = (let p = and_parts (is_text_test t) (list_all is_text_test ts) h in rw (text_in mode t p.0, texts_in mode ts p.1) refl)
 
+-- ids and groups of the tests that a call is for are those of the suite's tests
+chosen_ids : (b : List ℕ) (ts : List Test) (mode : ModeKind) (pick : Option Pick) → IsSuiteOf b ts → are_suite_ids (ids_by_mode mode (chosen pick ts)) ≡ true
+chosen_ids b ts mode None suite = suite-ids b ts mode suite
+chosen_ids b ts mode (Some p) suite = picked-ids b ts mode p.ids p.rest suite
+
+each_true : {X : Type 0} (p : X → Bool) (xs : List X) → list_all p xs ≡ true → All (λ x. p x ≡ true) xs
+each_true p [] h = All-nil (λ x. p x ≡ true)
+each_true p (x ∷ xs) h = let parts = and_parts (p x) (list_all p xs) h in All-cons (λ y. p y ≡ true) x xs parts.0 (each_true p xs parts.1)
+
+all_true : {X : Type 0} (p : X → Bool) (xs : List X) → All (λ x. p x ≡ true) xs → list_all p xs ≡ true
+all_true p [] h = refl
+all_true p (x ∷ xs) h = rw (All-head (λ y. p y ≡ true) x xs h, all_true p xs (All-tail (λ y. p y ≡ true) x xs h)) refl
+
+chosen_texts : (pick : Option Pick) (ts : List Test) → list_all is_text_test ts ≡ true → list_all is_text_test (chosen pick ts) ≡ true
+chosen_texts None ts h = h
+chosen_texts (Some p) ts h = all_true is_text_test (picked p.ids p.rest ts) (All-picked p.ids p.rest ts (λ t. is_text_test t ≡ true) (each_true is_text_test ts h))
+
 module _ (taken_ : List Order) (h : List HeardInput) (k : Served taken_ h) (g : HeardInput) where
   abbrev worker : Worker
   worker = worker_after h
 
   has_suite : (b : List ℕ) (ts : List Test) → g.came ≡ SuiteRead ts → IsSuiteOf b ts → list_all is_text_test ts ≡ true → worker.duties.owed ≡ true → Counts (table_after g.came worker.table).slot g.channels → Served taken_ (g ∷ h)
   has_suite b ts is suite texts owed counts =
-      let ids = ids_by_mode k.service.mode ts in
-      let good = given_suite ids (suite-ids b ts k.service.mode suite) (texts_in k.service.mode ts texts) in
-      let t = record (worker_turn_of worker) { duties = record (worker.duties) { owed = false; tests = ts } } in
+      let held = chosen k.service.pick ts in
+      let ids = ids_by_mode k.service.mode held in
+      let good = given_suite ids (chosen_ids b ts k.service.mode k.service.pick suite) (texts_in k.service.mode held (chosen_texts k.service.pick ts texts)) in
+      let t = record (worker_turn_of worker) { duties = record (worker.duties) { owed = false; tests = held } } in
+      let holds = λ (o : Option Service). fed (suite_input (ids_to_collect o (tests_to_run o ts))) g.channels (record (worker_turn_of worker) { duties = record (worker.duties) { owed = false; tests = tests_to_run o ts } }) in
       let turn : turn_by worker g ≡ fed (suite_input ids) g.channels t
       = ap (λ (c : Came). worker_turned c g.channels (worker_turn_of worker)) is
-      ∙ (ap (λ (b : Bool). if b then fed (suite_input (ids_to_collect worker.duties.service ts)) g.channels t else worker_turn_of worker) owed
-      ∙ ap (λ (o : Option Service). fed (suite_input (ids_to_collect o ts)) g.channels t) k.is) in
+      ∙ (ap (λ (b : Bool). if b then holds worker.duties.service else worker_turn_of worker) owed ∙ ap holds k.is) in
       fed_by taken_ h k g t (suite_input ids) turn refl refl refl refl (subst (λ (c : Came). Counts (table_after c worker.table).slot g.channels) is counts) good.ok good.comes good.none
 
   suite_came : (b : List ℕ) (c : Came) → g.came ≡ c → IsSuite b c → IsGiven c → worker.duties.owed ≡ true → Counts (table_after g.came worker.table).slot g.channels → Served taken_ (g ∷ h)

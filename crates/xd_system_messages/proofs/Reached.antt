@@ -14,6 +14,7 @@ use Rattle.xd_journal.specs.declared.news.What.TheVariants.{Gone, NotStarted}
 use Rattle.xd_journal.specs.declared.settings.Settings.{Settings}
 use Rattle.xd_journal.specs.Said.{is_breach}
 use Rattle.xd_commands.specs.Orders.{order_of}
+use Rattle.xd_commands.specs.declared.work.Work.{Work}
 use Rattle.xd_gateway.specs.News.{Heard, all_messages, all_news}
 use Rattle.xd_group_peer.specs.ToLink.{call_message, order_message, to_link}
 use Rattle.xd_run.specs.Proper.{IsProper}
@@ -56,11 +57,11 @@ orders_as_entries w (e ∷ es) = go (is_told_to w e) (orders_as_entries w es)
     go true h = ap (cons_option (order_of e)) h
     go false h = h
 
-written_more : (suite : List ℕ) (settings : Settings) (es more : List Entry) → IsFirstPart (to_link suite settings.mode es []) (to_link suite settings.mode (es ++ more) [])
-written_more suite settings es more = (
+written_more : (work : Work) (settings : Settings) (es more : List Entry) → IsFirstPart (to_link work es []) (to_link work (es ++ more) [])
+written_more work settings es more = (
   filter_map order_message more,
-  ap (λ (l : List MessageView). call_message suite settings.mode ∷ (l ++ [])) (filter_map-append order_message es more)
-      ∙ ap (λ (l : List MessageView). call_message suite settings.mode ∷ l) (append-nil (filter_map order_message es ++ filter_map order_message more) ∙ ap (λ (l : List MessageView). l ++ filter_map order_message more) (sym (append-nil (filter_map order_message es)))),
+  ap (λ (l : List MessageView). call_message work ∷ (l ++ [])) (filter_map-append order_message es more)
+      ∙ ap (λ (l : List MessageView). call_message work ∷ l) (append-nil (filter_map order_message es ++ filter_map order_message more) ∙ ap (λ (l : List MessageView). l ++ filter_map order_message more) (sym (append-nil (filter_map order_message es)))),
 )
 
 joins : {A : Type 0} (xs ys zs : List A) → IsFirstPart xs ys → IsFirstPart ys zs → IsFirstPart xs zs
@@ -131,27 +132,27 @@ took_told false news said told f (inr (inr e)) = inr (inr e)
 
 -- ---- one worker in a system
 
-record StandsAt (suite : List ℕ) (settings : Settings) (taken : List News) (w : ℕ) (e : WorkerEnd) : Type 0 where
+record StandsAt (work : Work) (settings : Settings) (taken : List News) (w : ℕ) (e : WorkerEnd) : Type 0 where
   heard : AreHeardInputs e.came e.history
   given : AreGiven e.history
   no_end : has_link_end e.came ≡ false
-  written : IsFirstPart (messages_in e.came) (written_to suite settings taken w)
+  written : IsFirstPart (messages_in e.came) (written_to work settings taken w)
   begun : AfterStart settings taken w
   news : TookSaid e.whole (said_by w taken) (all_said e.history)
 
 or_neither : (a b : Bool) → a ≡ false → b ≡ false → (a || b) ≡ false
 or_neither a b h k = rw (h, k) refl
 
-module _ (suite : List ℕ) (settings : Settings) (proper : IsProper settings []) (s : MessageSystem) where
+module _ (work : Work) (settings : Settings) (proper : IsProper settings []) (s : MessageSystem) where
   abbrev system : System
   system = record { taken = s.taken; links = λ w. uncalled_link }
 
   -- the steps of one worker's end
-  at_own : (v w : ℕ) (e : WorkerEnd) → (v == w) ≡ true → StandsAt suite settings s.taken w e → StandsAt suite settings s.taken w ((system_with_end s v e).ends w)
-  at_own v w e h k = subst (StandsAt suite settings s.taken w) (sym (ap (λ (b : Bool). if b then e else s.ends w) h)) k
+  at_own : (v w : ℕ) (e : WorkerEnd) → (v == w) ≡ true → StandsAt work settings s.taken w e → StandsAt work settings s.taken w ((system_with_end s v e).ends w)
+  at_own v w e h k = subst (StandsAt work settings s.taken w) (sym (ap (λ (b : Bool). if b then e else s.ends w) h)) k
 
-  at_other : (v w : ℕ) (e : WorkerEnd) → (v == w) ≡ false → StandsAt suite settings s.taken w (s.ends w) → StandsAt suite settings s.taken w ((system_with_end s v e).ends w)
-  at_other v w e h k = subst (StandsAt suite settings s.taken w) (sym (ap (λ (b : Bool). if b then e else s.ends w) h)) k
+  at_other : (v w : ℕ) (e : WorkerEnd) → (v == w) ≡ false → StandsAt work settings s.taken w (s.ends w) → StandsAt work settings s.taken w ((system_with_end s v e).ends w)
+  at_other v w e h k = subst (StandsAt work settings s.taken w) (sym (ap (λ (b : Bool). if b then e else s.ends w) h)) k
 
   same_worker : (P : ℕ → Type 0) (v w : ℕ) → (v == w) ≡ true → P v → P w
   same_worker P v w h p = (let same : v ≡ w = grind (arith, nat_tests, h) in subst P same p)
@@ -161,20 +162,20 @@ module _ (suite : List ℕ) (settings : Settings) (proper : IsProper settings []
     abbrev n : News
     n = record { worker = v; what = x }
 
-    grows : (w : ℕ) → IsFirstPart (written_to suite settings s.taken w) (written_to suite settings (s.taken ++ n ∷ []) w)
+    grows : (w : ℕ) → IsFirstPart (written_to work settings s.taken w) (written_to work settings (s.taken ++ n ∷ []) w)
     grows w =
         let r = run_of settings s.taken in
         let more = added r (input_of r n) in
         let entries : (run_of settings (s.taken ++ n ∷ [])).entries ≡ r.entries ++ more = ap (λ q. q.entries) (run-more settings s.taken n) ∙ entries-added r (input_of r n) in
-        subst (λ (es : List Entry). IsFirstPart (written_to suite settings s.taken w) (to_link suite settings.mode es [])) (sym (ap (entries_to w) entries ∙ filter_more (is_told_to w) r.entries more))
-        (written_more suite settings (entries_to w r.entries) (entries_to w more))
+        subst (λ (es : List Entry). IsFirstPart (written_to work settings s.taken w) (to_link work es [])) (sym (ap (entries_to w) entries ∙ filter_more (is_told_to w) r.entries more))
+        (written_more work settings (entries_to w r.entries) (entries_to w more))
 
-    takes : (w : ℕ) → ((v == w) ≡ true → TookSaid (s.ends w).whole (said_by w s.taken ++ x ∷ []) (all_said (s.ends w).history)) → StandsAt suite settings s.taken w (s.ends w) → StandsAt suite settings (s.taken ++ n ∷ []) w (s.ends w)
+    takes : (w : ℕ) → ((v == w) ≡ true → TookSaid (s.ends w).whole (said_by w s.taken ++ x ∷ []) (all_said (s.ends w).history)) → StandsAt work settings s.taken w (s.ends w) → StandsAt work settings (s.taken ++ n ∷ []) w (s.ends w)
     takes w own k = record {
       heard = k.heard;
       given = k.given;
       no_end = k.no_end;
-      written = joins (messages_in (s.ends w).came) (written_to suite settings s.taken w) (written_to suite settings (s.taken ++ n ∷ []) w) k.written (grows w);
+      written = joins (messages_in (s.ends w).came) (written_to work settings s.taken w) (written_to work settings (s.taken ++ n ∷ []) w) k.written (grows w);
       begun = begun-more settings proper system v x w (λ h. same_worker (WasBegun settings s.taken) v w h begun_now) k.begun;
       news = elim (cases_of (v == w)) [
         | inl h ↦ subst (λ (l : List What). TookSaid (s.ends w).whole l (all_said (s.ends w).history)) (sym (said-own-more settings proper system v x w h)) (own h)
@@ -182,10 +183,10 @@ module _ (suite : List ℕ) (settings : Settings) (proper : IsProper settings []
       ];
     }
 
-  stands_then : (all : (w : ℕ) → StandsAt suite settings s.taken w (s.ends w)) (t : MessageSystem) → MessageStep suite settings s t → (w : ℕ) → StandsAt suite settings t.taken w (t.ends w)
+  stands_then : (all : (w : ℕ) → StandsAt work settings s.taken w (s.ends w)) (t : MessageSystem) → MessageStep work settings s t → (w : ℕ) → StandsAt work settings t.taken w (t.ends w)
   stands_then all t (Comes v i g m) w = elim (cases_of (v == w)) [
     | inr h ↦ at_other v w (end_with_input (s.ends v) i g) h (all w)
-    | inl h ↦ at_own v w (end_with_input (s.ends v) i g) h (same_worker (λ u. StandsAt suite settings s.taken u (end_with_input (s.ends v) i g)) v w h (record {
+    | inl h ↦ at_own v w (end_with_input (s.ends v) i g) h (same_worker (λ u. StandsAt work settings s.taken u (end_with_input (s.ends v) i g)) v w h (record {
       heard = (m.heard, (all v).heard);
       given = (m.given, (all v).given);
       no_end = or_neither (is_link_end i) (has_link_end (s.ends v).came) m.no_end (all v).no_end;
@@ -196,7 +197,7 @@ module _ (suite : List ℕ) (settings : Settings) (proper : IsProper settings []
   ]
   stands_then all t (IsCut v) w = elim (cases_of (v == w)) [
     | inr h ↦ at_other v w (cut_end (s.ends v)) h (all w)
-    | inl h ↦ at_own v w (cut_end (s.ends v)) h (same_worker (λ u. StandsAt suite settings s.taken u (cut_end (s.ends v))) v w h (record {
+    | inl h ↦ at_own v w (cut_end (s.ends v)) h (same_worker (λ u. StandsAt work settings s.taken u (cut_end (s.ends v))) v w h (record {
       heard = (all v).heard;
       given = (all v).given;
       no_end = (all v).no_end;
@@ -228,12 +229,12 @@ module _ (suite : List ℕ) (settings : Settings) (proper : IsProper settings []
           let so_far = took_none_last (s.ends v).whole (said_by v s.taken) (all_said (s.ends v).history) none (all v).news in
           silent_news (said_by v s.taken) (subst (λ (h : List HeardInput). AreNewsSoFar (all_said h) (said_by v s.taken)) quiet so_far)
 
-stands_new : (suite : List ℕ) (settings : Settings) (w : ℕ) → StandsAt suite settings [] w (new_system.ends w)
-stands_new suite settings w = record {
+stands_new : (work : Work) (settings : Settings) (w : ℕ) → StandsAt work settings [] w (new_system.ends w)
+stands_new work settings w = record {
   heard = tt;
   given = tt;
   no_end = refl;
-  written = (written_to suite settings [] w, refl);
+  written = (written_to work settings [] w, refl);
   begun = λ before n after e. absurd (none before n after e);
   news = record { first = []; begins = ([], refl); are = record { heard = []; are = tt; messages_are = refl; news_are = refl } };
 }
@@ -242,14 +243,14 @@ stands_new suite settings w = record {
     none [] n after e = cc
     none (b ∷ before) n after e = cc
 
-stands : (suite : List ℕ) (settings : Settings) (s : MessageSystem) → IsProper settings [] → ReachesByMessages suite settings s → (w : ℕ) → StandsAt suite settings s.taken w (s.ends w)
-stands suite settings s proper New w = stands_new suite settings w
-stands suite settings s proper (Then p t before step) w = stands_then suite settings proper p (stands suite settings p proper before) t step w
+stands : (work : Work) (settings : Settings) (s : MessageSystem) → IsProper settings [] → ReachesByMessages work settings s → (w : ℕ) → StandsAt work settings s.taken w (s.ends w)
+stands work settings s proper New w = stands_new work settings w
+stands work settings s proper (Then p t before step) w = stands_then work settings proper p (stands work settings p proper before) t step w
 
 -- ---- as a moment
 
-moment : (suite : List ℕ) (settings : Settings) (taken : List News) (w : ℕ) (e : WorkerEnd) → CanBeCalled suite settings.mode → AreSayable (told_to w (run_of settings taken).entries) → StandsAt suite settings taken w e → IsHonestAt settings taken w (link_seen e)
-moment suite settings taken w e c sayable k = by_messages (messages_in e.came) refl
+moment : (work : Work) (settings : Settings) (taken : List News) (w : ℕ) (e : WorkerEnd) → CanBeCalled work → AreSayable (told_to w (run_of settings taken).entries) → StandsAt work settings taken w e → IsHonestAt settings taken w (link_seen e)
+moment work settings taken w e c sayable k = by_messages (messages_in e.came) refl
   where
     entries : List Entry
     entries = entries_to w (run_of settings taken).entries
@@ -281,8 +282,8 @@ moment suite settings taken w e c sayable k = by_messages (messages_in e.came) r
         subst (λ (h : List HeardInput). IsHonestAt settings taken w (record { called = was_called (worker_after h).duties.service; given = given_to_call (worker_after h).duties.service; whole = e.whole })) (sym quiet) (uncalled quiet)
     by_messages (m ∷ ms) q =
         let some : messages_in e.came ≡ [] → ⊥ = λ z. (let y : [] ≡ m ∷ ms = sym z ∙ q in cc) in
-        let b = says_what_it_tells suite settings.mode (entries_to w (run_of settings taken).entries) e.came e.history c (subst AreSayable (sym os_are) sayable) k.heard k.given k.no_end k.written some in
+        let b = says_what_it_tells work (entries_to w (run_of settings taken).entries) e.came e.history c (subst AreSayable (sym os_are) sayable) k.heard k.given k.no_end k.written some in
         subst (λ (o : Option Service). IsHonestAt settings taken w (record { called = was_called o; given = given_to_call o; whole = e.whole })) (sym b.1) (called b.0 b.2)
 
 pub reached : ReachedAreMoments
-reached suite settings s proper c r w = moment suite settings s.taken w (s.ends w) c (run_sayable settings s.taken w proper) (stands suite settings s proper r w)
+reached work settings s proper c r w = moment work settings s.taken w (s.ends w) c (run_sayable settings s.taken w proper) (stands work settings s proper r w)

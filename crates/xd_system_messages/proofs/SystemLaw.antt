@@ -20,4 +20,4 @@ holds_of settings s proper honest = record {
 }
 
 pub holds : HoldsInEachState
-holds suite settings s proper c r = holds_of settings s proper (reached suite settings s proper c r)
+holds work settings s proper c r = holds_of settings s proper (reached work settings s proper c r)

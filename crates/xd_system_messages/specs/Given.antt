@@ -4,6 +4,7 @@ use Rattle.std.specs.List.{list_all}
 use Rattle.std.specs.Str.{all_scalars}
 use Rattle.xd_suite.specs.declared.test.Test.{Test}
 use Rattle.xd_commands.specs.Events.{IsOutcome}
+use Rattle.xd_commands.specs.declared.work.Pick.{Pick}
 use Rattle.xd_worker.specs.Turns.{Came, Told, SuiteRead, NoSuite, Printed, ChildEnded, LinkEnded}
 use Rattle.xd_worker.specs.History.{HeardInput}
 
@@ -11,6 +12,11 @@ use Rattle.xd_worker.specs.History.{HeardInput}
 abbrev pub is_text_if_any : Option (List ℕ) → Bool
 is_text_if_any None = true
 is_text_if_any (Some group) = all_scalars group
+
+-- the ids of a pick are texts, where there is one
+abbrev pub is_text_pick : Option Pick → Bool
+is_text_pick None = true
+is_text_pick (Some p) = list_all all_scalars p.ids
 
 -- the id and the group of a test are texts of Unicode's scalar values
 abbrev pub is_text_test : Test → Bool

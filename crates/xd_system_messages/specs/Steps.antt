@@ -11,6 +11,7 @@ use Rattle.xd_journal.specs.declared.news.What.{What}
 use Rattle.xd_journal.specs.declared.news.What.TheVariants.{Gone, NotStarted}
 use Rattle.xd_journal.specs.declared.settings.Settings.{Settings}
 use Rattle.xd_journal.specs.Said.{is_breach}
+use Rattle.xd_commands.specs.declared.work.Work.{Work}
 use Rattle.xd_gateway.specs.News.{IsNewsOf}
 use Rattle.xd_group_peer.specs.ToLink.{to_link}
 use Rattle.xd_run.specs.Proper.{IsProper}
@@ -68,8 +69,8 @@ entries_to w es = filter (is_told_to w) es
 
 -- what the controller writes to a worker until it took that the worker has ended; the GATEWAY_TERMINATE that it writes
 -- then is no step here
-abbrev pub written_to : List ℕ → Settings → List News → ℕ → List MessageView
-written_to suite settings taken w = to_link suite settings.mode (entries_to w (run_of settings taken).entries) []
+abbrev pub written_to : Work → Settings → List News → ℕ → List MessageView
+written_to work settings taken w = to_link work (entries_to w (run_of settings taken).entries) []
 
 -- the controller takes nothing more of the worker
 abbrev pub heard_last : MessageSystem → ℕ → Bool
@@ -77,13 +78,13 @@ heard_last s w = list_any is_link_over (said_by w s.taken)
 
 -- what came to the worker next is what may come to it: of the link the next message that was written to it, and of a
 -- suite or a program only what is due
-pub record MayComeNext (suite : List ℕ) (settings : Settings) (s : MessageSystem)
+pub record MayComeNext (work : Work) (settings : Settings) (s : MessageSystem)
     (w : ℕ) (i : WorkerInput) (g : HeardInput) : Type 0 where
   pub begun : WasBegun settings s.taken w
   pub heard : IsHeard (worker_after (s.ends w).history) i g
   pub given : IsGiven g.came
   pub no_end : is_link_end i ≡ false
-  pub written : IsFirstPart (messages_in (i ∷ (s.ends w).came)) (written_to suite settings s.taken w)
+  pub written : IsFirstPart (messages_in (i ∷ (s.ends w).came)) (written_to work settings s.taken w)
 
 -- the news of a worker are those of a first part of what it said
 pub record AreNewsSoFar (said : List MessageView) (news : List What) : Type 0 where
@@ -94,24 +95,24 @@ pub record AreNewsSoFar (said : List MessageView) (news : List What) : Type 0 wh
 -- One step of the system. Something comes to a worker; the controller takes the next piece of news that a worker's
 -- messages mean; a link is cut; and of a link that was cut the controller takes its end, or that the worker was not
 -- started where nothing came to it.
-pub data MessageStep (suite : List ℕ) (settings : Settings) (s : MessageSystem) : MessageSystem → Type 0 where
-  Comes : (w : ℕ) (i : WorkerInput) (g : HeardInput) → MayComeNext suite settings s w i g
-      → MessageStep suite settings s (system_with_end s w (end_with_input (s.ends w) i g))
+pub data MessageStep (work : Work) (settings : Settings) (s : MessageSystem) : MessageSystem → Type 0 where
+  Comes : (w : ℕ) (i : WorkerInput) (g : HeardInput) → MayComeNext work settings s w i g
+      → MessageStep work settings s (system_with_end s w (end_with_input (s.ends w) i g))
   IsTaken : (w : ℕ) (x : What) → WasBegun settings s.taken w → heard_last s w ≡ false
       → AreNewsSoFar (all_said (s.ends w).history) (said_by w s.taken ++ x ∷ [])
-      → MessageStep suite settings s (system_with_taken s w x)
-  IsCut : (w : ℕ) → MessageStep suite settings s (system_with_end s w (cut_end (s.ends w)))
+      → MessageStep work settings s (system_with_taken s w x)
+  IsCut : (w : ℕ) → MessageStep work settings s (system_with_end s w (cut_end (s.ends w)))
   IsGone : (w : ℕ) (cause : Cause) → WasBegun settings s.taken w → (s.ends w).whole ≡ false → heard_last s w ≡ false
-      → is_breach (Gone cause) ≡ false → MessageStep suite settings s (system_with_taken s w (Gone cause))
+      → is_breach (Gone cause) ≡ false → MessageStep work settings s (system_with_taken s w (Gone cause))
   Unstarted : (w : ℕ) → WasBegun settings s.taken w → (s.ends w).whole ≡ false → (s.ends w).came ≡ []
       → heard_last s w ≡ false
-      → MessageStep suite settings s (system_with_taken s w NotStarted)
+      → MessageStep work settings s (system_with_taken s w NotStarted)
 
 -- the states that steps reach from a new system
-pub data ReachesByMessages (suite : List ℕ) (settings : Settings) : MessageSystem → Type 0 where
-  New : ReachesByMessages suite settings new_system
-  Then : (s t : MessageSystem) → ReachesByMessages suite settings s → MessageStep suite settings s t
-      → ReachesByMessages suite settings t
+pub data ReachesByMessages (work : Work) (settings : Settings) : MessageSystem → Type 0 where
+  New : ReachesByMessages work settings new_system
+  Then : (s t : MessageSystem) → ReachesByMessages work settings s → MessageStep work settings s t
+      → ReachesByMessages work settings t
 
 -- what came to the call, none before it
 abbrev pub given_to_call : Option Service → List Given
@@ -134,5 +135,5 @@ link_seen e = record {
 -- Each state that steps over messages reach is a moment of honest workers.
 abbrev pub ReachedAreMoments : Type 0
 ReachedAreMoments =
-    (suite : List ℕ) (settings : Settings) (s : MessageSystem) → IsProper settings [] → CanBeCalled suite settings.mode
-    → ReachesByMessages suite settings s → (w : ℕ) → IsHonestAt settings s.taken w (link_seen (s.ends w))
+    (work : Work) (settings : Settings) (s : MessageSystem) → IsProper settings [] → CanBeCalled work
+    → ReachesByMessages work settings s → (w : ℕ) → IsHonestAt settings s.taken w (link_seen (s.ends w))

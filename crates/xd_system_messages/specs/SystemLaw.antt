@@ -1,7 +1,8 @@
 -- What holds in each state that a system reaches whose workers take messages and say messages.
-use Rattle.std.specs.Prelude.{◌≡◌, ℕ, true, false, List, []}
+use Rattle.std.specs.Prelude.{◌≡◌, ℕ, true, false, []}
 use Rattle.std.specs.List.{list_any}
 use Rattle.xd_journal.specs.declared.settings.Settings.{Settings}
+use Rattle.xd_commands.specs.declared.work.Work.{Work}
 use Rattle.xd_run.specs.Histories.{is_over}
 use Rattle.xd_run.specs.Numbers.{without}
 use Rattle.xd_run.specs.Proper.{IsProper}
@@ -34,5 +35,5 @@ pub record HoldsIn (settings : Settings) (s : MessageSystem) : Type 0 where
 -- Example: gw0 runs 0 of 0 to 4, and a Steal of 3 and 4 is on the way to it; whatever it says next is no breach.
 abbrev pub HoldsInEachState : Type 0
 HoldsInEachState =
-    (suite : List ℕ) (settings : Settings) (s : MessageSystem) → IsProper settings [] → CanBeCalled suite settings.mode
-    → ReachesByMessages suite settings s → HoldsIn settings s
+    (work : Work) (settings : Settings) (s : MessageSystem) → IsProper settings [] → CanBeCalled work
+    → ReachesByMessages work settings s → HoldsIn settings s

@@ -15,7 +15,7 @@ use Rattle.xd_commands.specs.Functions.{called_in, call_of, has_no_source, named
 abbrev pub IsOther : Called → Type 0
 IsOther (Runs function.Echo) = Unit {0}
 IsOther (Runs (function.Fail t)) = Unit {0}
-IsOther (Runs (function.RunTests path mode)) = ⊥
+IsOther (Runs (function.RunTests work)) = ⊥
 IsOther (Refused fault) = Unit {0}
 
 -- where `run_tests` was called, it is not called again

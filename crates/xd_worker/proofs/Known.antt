@@ -28,7 +28,7 @@ use Rattle.xd_commands.specs.Functions.{called_in}
 use Rattle.xd_factory.specs.SideTable.{heard_of_message, answer, lost}
 use Rattle.xd_worker.specs.Talk.{sent_how, payload_on}
 use Rattle.xd_worker.specs.Worker.{Service, WorkerTurn, worker_turn_of, running_in}
-use Rattle.xd_worker.specs.Turns.{Came, Told, SuiteRead, NoSuite, Printed, ChildEnded, LinkEnded, at_talk, ended_call, asked, all_asked, given_in, fed_to, fed, called, is_called, echo_ended, echoed, echoed_how, is_service, worker_stopped, did, did_unless, is_written, ids_to_collect, suite_read, suite_refused, worker_turned}
+use Rattle.xd_worker.specs.Turns.{Came, Told, SuiteRead, NoSuite, Printed, ChildEnded, LinkEnded, at_talk, ended_call, asked, all_asked, given_in, fed_to, fed, called, is_called, echo_ended, echoed, echoed_how, is_service, worker_stopped, did, did_unless, is_written, ids_to_collect, tests_to_run, tests_held, suite_read, suite_refused, worker_turned}
 use Rattle.xd_worker.specs.History.{HeardInput, worker_after, turn_by, WorkerKnowsTests}
 
 -- the suite of `run_tests` has no more tests than were read, and none before a suite was
@@ -93,7 +93,7 @@ plain_fed i n t same k = fed_known t.duties.service i n t (fits_same i t.duties.
 called_known : (n : ℕ) (call : Called) (t : WorkerTurn) → Known t → Known (called n call t)
 called_known n (Runs function.Echo) t k = record { fits = k.fits; run_in = k.run_in }
 called_known n (Runs (function.Fail text)) t k = record { fits = k.fits; run_in = k.run_in }
-called_known n (Runs (function.RunTests path mode)) t k = record { fits = (omega arith, λ e. refl); run_in = k.run_in }
+called_known n (Runs (function.RunTests work)) t k = record { fits = (omega arith, λ e. refl); run_in = k.run_in }
 called_known n (Refused fault) t k = record { fits = k.fits; run_in = k.run_in }
 
 echo_ended_known : (n : ℕ) (text : Option (List ℕ)) (t : WorkerTurn) → Known t → Known (echo_ended n text t)
@@ -150,8 +150,8 @@ none_fits : (owed : Bool) (s : Option Service) (m k : ℕ) → owed ≡ true →
 none_fits owed None m k e f = tt
 none_fits owed (Some s) m k e f = let none = f.1 e in (omega (arith, none), λ z. cc)
 
-suite_known : (ts : List Test) (n : ℕ) (t : WorkerTurn) → t.duties.owed ≡ true → t.run ≡ None → Known t → Known (suite_read ts n t)
-suite_known ts n t owed none k = go (is_written (event_tree (Collected (ids_to_collect t.duties.service ts))))
+held_known : (ts : List Test) (n : ℕ) (t : WorkerTurn) → t.duties.owed ≡ true → t.run ≡ None → Known t → Known (tests_held ts n t)
+held_known ts n t owed none k = go (is_written (event_tree (Collected (ids_to_collect t.duties.service ts))))
   where
     u : WorkerTurn
     u = record t { duties = record (t.duties) { owed = false; tests = ts } }
@@ -179,7 +179,7 @@ turned_known (Told said) n t none k = did_unless_known t.duties.stopped (answer 
 turned_known (SuiteRead ts) n t none k = go t.duties.owed refl
   where
     go : (b : Bool) → t.duties.owed ≡ b → Known (if b then suite_read ts n t else t)
-    go true e = suite_known ts n t e none k
+    go true e = held_known (tests_to_run t.duties.service ts) n t e none k
     go false e = k
 turned_known (NoSuite text) n t none k = go t.duties.owed
   where

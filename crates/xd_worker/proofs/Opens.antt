@@ -4,7 +4,7 @@ use Rattle.std.specs.Prelude.{◌==◌, ◌-◌, nat_lt, is_some, if◌then◌el
 use Rattle.xd_value.specs.Tree.{Tree, Trees, Pairs}
 use Rattle.xd_value.specs.Tree as tree
 use Rattle.xd_commands.specs.Calls.{has_text_keys}
-use Rattle.xd_edge.specs.declared.mode.ModeKind.{ModeKind}
+use Rattle.xd_commands.specs.declared.work.Work.{Work}
 use Rattle.xd_channel.specs.State.{fresh_end, end_of, put_gives}
 use Rattle.xd_channel.specs.declared.end.End.{End}
 use Rattle.xd_channel.specs.declared.end.End.TheVariants.{LastMessage}
@@ -45,7 +45,7 @@ use Rattle.xd_factory.specs.SideTable.{ChannelTable, Counts, changed_at, opened,
 use Rattle.xd_worker.specs.Table.{empty}
 use Rattle.xd_worker.specs.Talk.{Talk, told_tree, sent_how, payload_on, function_begun}
 use Rattle.xd_worker.specs.Worker.{Service, Duties, WorkerTurn, Opening, worker_turn_of, after_turn, running_in}
-use Rattle.xd_worker.specs.Turns.{Came, Told, SuiteRead, NoSuite, Printed, ChildEnded, LinkEnded, at_talk, ended_call, asked, all_asked, others, given_in, fed_to, fed, tests_begun, called, is_called, echo_ended, echoed, echoed_how, is_service, worker_stopped, did, did_unless, suite_input, ids_to_collect, suite_read, suite_refused, worker_turned}
+use Rattle.xd_worker.specs.Turns.{Came, Told, SuiteRead, NoSuite, Printed, ChildEnded, LinkEnded, at_talk, ended_call, asked, all_asked, others, given_in, fed_to, fed, tests_begun, called, is_called, echo_ended, echoed, echoed_how, is_service, worker_stopped, did, did_unless, suite_input, ids_to_collect, suite_read, suite_refused, tests_to_run, worker_turned}
 use Rattle.xd_worker.specs.History.{HeardInput, worker_after, turn_by, table_after}
 use Rattle.xd_worker.specs.Logs.{CanOpen, AllOpen, LogLaw}
 use Rattle.xd_worker.proofs.Logs.{Plain, Evens, heard_evens, lost_evens, odd_evens, open_evens, close_evens, ended_here, Short, counted_short, counted_once, ended_short, close_short}
@@ -305,13 +305,13 @@ abbrev Again : Bool → Called → Type 0
 Again b (Refused x) = Unit {0}
 Again b (Runs function.Echo) = Unit {0}
 Again b (Runs (function.Fail x)) = Unit {0}
-Again b (Runs (function.RunTests path mode)) = b ≡ false
+Again b (Runs (function.RunTests work)) = b ≡ false
 
 again_not : (c : Called) → Again false c
 again_not (Refused x) = tt
 again_not (Runs function.Echo) = tt
 again_not (Runs (function.Fail x)) = tt
-again_not (Runs (function.RunTests path mode)) = refl
+again_not (Runs (function.RunTests work)) = refl
 
 again_function : (f : FunctionName) (ps : Pairs) → Again true (function_of true f ps)
 again_function name.Echo ps = tt
@@ -384,8 +384,8 @@ again : (b : Bool) (v : Tree) → Again b (called_in b v)
 again true v = again_in v
 again false v = again_not (called_in false v)
 
-begun_good : (P : Type 0) (k : ℕ) → is_mine Even k ≡ false → (path : List ℕ) (mode : ModeKind) (t : WorkerTurn) → t.duties.service ≡ None → t.duties.stopped ≡ false → Good P t → Good P (tests_begun k path mode t)
-begun_good P k odd path mode t e stop b =
+begun_good : (P : Type 0) (k : ℕ) → is_mine Even k ≡ false → (work : Work) (t : WorkerTurn) → t.duties.service ≡ None → t.duties.stopped ≡ false → Good P t → Good P (tests_begun k work t)
+begun_good P k odd work t e stop b =
     let evens : Evens t.talk.table 0 false = subst (Fits t.talk.table) e b.fits in
     let same = told_table k (event_tree what.Ready) (function_begun k t.talk) in
     record {
@@ -404,7 +404,7 @@ called_good : (P : Type 0) (k : ℕ) → is_mine Even k ≡ false → (call : Ca
 called_good P k odd (Runs function.Echo) t a stop b = record { fits = odd_fits k hooked_slot t.talk.table t.duties.service odd b.fits; linked = b.linked; silent = b.silent; all_open = b.all_open }
 called_good P k odd (Runs (function.Fail x)) t a stop b = record { fits = odd_fits k function_ended_slot t.talk.table t.duties.service odd b.fits; linked = b.linked; silent = b.silent; all_open = b.all_open }
 called_good P k odd (Refused x) t a stop b = record { fits = odd_fits k function_ended_slot t.talk.table t.duties.service odd b.fits; linked = b.linked; silent = b.silent; all_open = b.all_open }
-called_good P k odd (Runs (function.RunTests path mode)) t a stop b = begun_good P k odd path mode t (not_called t.duties.service a) stop b
+called_good P k odd (Runs (function.RunTests work)) t a stop b = begun_good P k odd work t (not_called t.duties.service a) stop b
   where
     not_called : (s : Option Service) → is_called s ≡ false → s ≡ None
     not_called None e = refl
@@ -526,7 +526,7 @@ turned_good P (Told said) n t k b =
 turned_good P (SuiteRead ts) n t k b = go t.duties.owed
   where
     go : (x : Bool) → Good P (if x then suite_read ts n t else t)
-    go true = fed_good P (suite_input (ids_to_collect t.duties.service ts)) n (record t { duties = record (t.duties) { owed = false; tests = ts } }) k (record { fits = b.fits; linked = b.linked; silent = b.silent; all_open = b.all_open })
+    go true = let us = tests_to_run t.duties.service ts in fed_good P (suite_input (ids_to_collect t.duties.service us)) n (record t { duties = record (t.duties) { owed = false; tests = us } }) k (record { fits = b.fits; linked = b.linked; silent = b.silent; all_open = b.all_open })
     go false = b
 turned_good P (NoSuite text) n t k b = go t.duties.owed
   where

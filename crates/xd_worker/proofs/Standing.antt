@@ -94,7 +94,7 @@ pub fed_by : (r : TestsCall) (function : RunTests) (s : Service) (i : Input) (ro
 fed_by r function s i room n acts h e f a b =
     subst (λ (x : Bool). FedBy (Some (record r { function = function })) s (record { input = i; room = x }) (record { channel = r.channel; acts = acts })) e
     (record {
-      services_are = record { channel_is = h.channel_is; mode_is = h.mode_is; ended_is = h.ended_is; follows = f };
+      services_are = record { channel_is = h.channel_is; mode_is = h.mode_is; pick_is = h.pick_is; ended_is = h.ended_is; follows = f };
       channel_is = h.channel_is;
       asks_are = a;
       run_is = b;
@@ -122,7 +122,7 @@ all_asked_more c (b ∷ asks) a t = all_asked_more c asks a (asked c b t)
 -- `run_tests` has ended
 pub ended_some : (r : TestsCall) (s : Option Service) → AreServices (Some r) s → AreServices (Some (record r { ended = true })) (ended_call s)
 ended_some r None h = absurd h
-ended_some r (Some s) h = record { channel_is = h.channel_is; mode_is = h.mode_is; ended_is = refl; follows = h.follows }
+ended_some r (Some s) h = record { channel_is = h.channel_is; mode_is = h.mode_is; pick_is = h.pick_is; ended_is = refl; follows = h.follows }
 
 pub ended_none : (s : Option Service) → AreServices None s → AreServices None (ended_call s)
 ended_none None h = h

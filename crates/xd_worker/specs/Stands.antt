@@ -31,6 +31,7 @@ use Rattle.xd_worker.specs.History.{HeardInput, Is, table_after, turn_by, worker
 pub record IsService (r : TestsCall) (s : Service) : Type 0 where
   pub channel_is : r.channel ≡ s.channel
   pub mode_is : r.mode ≡ s.mode
+  pub pick_is : r.pick ≡ s.pick
   pub ended_is : r.ended ≡ s.ended
   pub follows : Follows r.function s.given
 
@@ -41,7 +42,7 @@ AreServices (Some r) (Some s) = IsService r s
 AreServices None (Some s) = ⊥
 AreServices (Some r) None = ⊥
 
--- the tests of the suite that was read, none before
+-- the tests that are run of the suite that was read, none before
 abbrev pub suite_tests_of : Option (List Test) → List Test
 suite_tests_of None = []
 suite_tests_of (Some tests) = tests

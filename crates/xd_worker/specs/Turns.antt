@@ -1,13 +1,13 @@
 -- What each input makes a worker do. The rules of `run_tests` are those of xd_worker_tests, and the rules of channels those
 -- of xd_factory; the functions `echo` and `fail` are choices of this project.
 use Rattle.std.specs.Prelude.{ℕ, ◌-◌, ◌==◌, nat_lt, not, List, [], ◌∷◌, ◌++◌, filter, Bool, true, false, Option, Some, None, Result, Ok, Err, unwrap_or, if◌then◌else◌, codes}
-use Rattle.xd_edge.specs.declared.mode.ModeKind.{ModeKind}
 use Rattle.xd_value.specs.Tree.{Tree, bytes}
 use Rattle.xd_value.specs.Canonical.{dumped}
 use Rattle.xd_factory.specs.declared.taken.Taken.{Taken}
 use Rattle.xd_factory.specs.declared.taken.Taken.TheVariants.{Kept, Handed, EndKept, EndHanded, Dropped, Status, Exec, Terminate}
 use Rattle.xd_factory.specs.Said.{Said}
 use Rattle.xd_suite.specs.declared.test.Test.{Test}
+use Rattle.xd_suite.specs.Picked.{picked}
 use Rattle.xd_suite.specs.Tests.{ids_by_mode}
 use Rattle.xd_journal.specs.declared.entry.Outcome.{Outcome}
 use Rattle.xd_journal.specs.declared.news.What.TheVariants.{Ready, Collected}
@@ -23,6 +23,8 @@ use Rattle.xd_commands.specs.declared.function.CallFault.{CallFault}
 use Rattle.xd_commands.specs.declared.function.Called.{Called}
 use Rattle.xd_commands.specs.declared.function.Called.TheVariants.{Runs, Refused}
 use Rattle.xd_commands.specs.declared.function.Function.TheVariants as function
+use Rattle.xd_commands.specs.declared.work.Pick.{Pick}
+use Rattle.xd_commands.specs.declared.work.Work.{Work}
 use Rattle.xd_worker.specs.declared.talk.Sent.{Sent}
 use Rattle.xd_worker.specs.declared.talk.Sent.TheVariants as how
 use Rattle.xd_commands.specs.Functions.{called_in, call_fault_text}
@@ -30,8 +32,8 @@ use Rattle.xd_factory.specs.SideTable.{heard_of_message, answer, lost}
 use Rattle.xd_worker.specs.Talk.{Talk, sent, sent_how, payload_on, event_told, opening, log_closed, function_ended, function_begun, status_told}
 use Rattle.xd_worker.specs.Worker.{Service, WorkerTurn, running_in, executing, logs_opened_by}
 
--- what an input is: what a message says, the tests of the suite or why there are none, output of the running test, its
--- end, or the link's end
+-- what an input is: what a message says, the tests of the suite file or why there are none, output of the running test,
+-- its end, or the link's end
 pub data Came : Type 0 where
   Told : Said → Came
   SuiteRead : List Test → Came
@@ -111,21 +113,21 @@ echo_begun n t = record t {
 }
 
 -- `run_tests` begins: it tells `workerready`, and asks for its suite file
-abbrev pub tests_begun : ℕ → List ℕ → ModeKind → WorkerTurn → WorkerTurn
-tests_begun n path mode t = record t {
+abbrev pub tests_begun : ℕ → Work → WorkerTurn → WorkerTurn
+tests_begun n work t = record t {
   talk = event_told n Ready (function_begun n t.talk);
   duties = record (t.duties) {
-    service = Some (record { channel = n; mode = mode; given = []; ended = false });
+    service = Some (record { channel = n; mode = work.mode; pick = work.pick; given = []; ended = false });
     owed = true;
   };
-  suite = Some path;
+  suite = Some work.suite;
 }
 
 -- what becomes of a CHANNEL_EXEC on this channel: a function begins, or the call is refused
 abbrev pub called : ℕ → Called → WorkerTurn → WorkerTurn
 called n (Runs function.Echo) t = echo_begun n t
 called n (Runs (function.Fail text)) t = failed n text t
-called n (Runs (function.RunTests path mode)) t = tests_begun n path mode t
+called n (Runs (function.RunTests work)) t = tests_begun n work t
 called n (Refused fault) t = refused n fault t
 
 -- `run_tests` was called before
@@ -206,15 +208,30 @@ is_written (Some v) = is_ok (dumped v)
 abbrev pub suite_input : List (List ℕ) → Input
 suite_input ids = if is_written (event_tree (Collected ids)) then input.Suite ids else input.SuiteRefused (codes "suite is too large")
 
+-- the tests that a call is for: those that are picked of its suite, or all of them
+abbrev pub chosen : Option Pick → List Test → List Test
+chosen None ts = ts
+chosen (Some p) ts = picked p.ids p.rest ts
+
+-- the tests of a suite that `run_tests` was called for
+-- Example: called with the id b and without the rest it is for b alone, which is then the test of the number 0.
+abbrev pub tests_to_run : Option Service → List Test → List Test
+tests_to_run None ts = ts
+tests_to_run (Some s) ts = chosen s.pick ts
+
 -- the ids of these tests in the mode that `run_tests` was called with
 abbrev pub ids_to_collect : Option Service → List Test → List (List ℕ)
 ids_to_collect None ts = []
 ids_to_collect (Some s) ts = ids_by_mode s.mode ts
 
--- the suite that was owed came: `run_tests` gets the ids of its tests
-abbrev pub suite_read : List Test → ℕ → WorkerTurn → WorkerTurn
-suite_read ts n t =
+-- these are the tests of a worker from now on, and no suite is owed: `run_tests` gets their ids
+abbrev pub tests_held : List Test → ℕ → WorkerTurn → WorkerTurn
+tests_held ts n t =
     fed (suite_input (ids_to_collect t.duties.service ts)) n (record t { duties = record (t.duties) { owed = false; tests = ts } })
+
+-- the suite that was owed came, with these tests: those that `run_tests` was called for are held
+abbrev pub suite_read : List Test → ℕ → WorkerTurn → WorkerTurn
+suite_read ts n t = tests_held (tests_to_run t.duties.service ts) n t
 
 -- no suite came of what was owed: `run_tests` gets the reason
 abbrev pub suite_refused : List ℕ → ℕ → WorkerTurn → WorkerTurn

@@ -4,16 +4,18 @@ use Rattle.xd_edge.specs.declared.mode.ModeKind.{ModeKind}
 use Rattle.xd_suite.specs.declared.test.Test.{Test}
 use Rattle.xd_journal.specs.declared.news.What.{What}
 use Rattle.xd_journal.specs.declared.news.What.TheVariants.{LogStart}
+use Rattle.xd_commands.specs.declared.work.Pick.{Pick}
 use Rattle.xd_worker_tests.specs.Line.{running_test}
 use Rattle.xd_worker_tests.specs.History.{Given, call_after}
 use Rattle.xd_factory.specs.SideTable.{ChannelTable}
 use Rattle.xd_worker.specs.Table.{empty}
 use Rattle.xd_worker.specs.Talk.{Talk}
 
--- the call of `run_tests`: its channel and its mode, what came to the function, and whether it has ended
+-- the call of `run_tests`: its channel, its mode and its pick, what came to the function, and whether it has ended
 pub record Service : Type 0 where
   pub channel : ℕ
   pub mode : ModeKind
+  pub pick : Option Pick
   pub given : List Given
   pub ended : Bool
 

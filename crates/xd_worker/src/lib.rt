@@ -4,12 +4,14 @@
 
 mod input;
 mod laws;
+mod pick;
 mod talk;
 mod tests_call;
 mod worker;
 
 pub use input::{WorkerActions, WorkerFault, WorkerInput};
 pub use laws::{a_test_is_of_the_suite, each_log_opens};
+pub use pick::chosen;
 pub use talk::Sent;
 pub use tests_call::{Fed, TestsCall};
 pub use worker::{Asked, WorkerCore};

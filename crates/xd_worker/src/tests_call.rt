@@ -3,15 +3,18 @@ ghost use Rattle.std.specs.Prelude.{◌≡◌, IfOk, Option, Some};
 ghost use Rattle.xd_worker_tests.specs.Turns.{CanTake};
 ghost use Rattle.xd_worker_tests.specs.declared.input.Input.{Input};
 
+use xd_commands::Pick;
 use xd_edge::{ModeKind, OutOfMemory};
 use xd_factory::MAX_ENTRIES;
 use xd_worker_tests::{Acts, Input, RunTests};
 
-/// The call of `run_tests` on a link: its channel, the mode whose ids it sends, and whether it has ended.
+/// The call of `run_tests` on a link: its channel, the mode whose ids it sends, the tests that are picked of its suite,
+/// and whether it has ended.
 #[derive(Drop)]
 pub struct TestsCall {
     pub channel: u32,
     pub mode: ModeKind,
+    pub pick: Option<Pick>,
     pub function: RunTests,
     pub ended: bool,
 }

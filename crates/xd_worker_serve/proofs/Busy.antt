@@ -173,7 +173,7 @@ fed_keeps i k n last t spares f = go t.duties.service refl
 other_keeps : (k n : ℕ) (last : Bool) (c : Called) (t : WorkerTurn) → IsOther c → Keeps n last t → Keeps n last (called k c t)
 other_keeps k n last (Runs function.Echo) t o f = f
 other_keeps k n last (Runs (function.Fail x)) t o f = f
-other_keeps k n last (Runs (function.RunTests path mode)) t o f = absurd o
+other_keeps k n last (Runs (function.RunTests work)) t o f = absurd o
 other_keeps k n last (Refused fault) t o f = f
 
 -- a worker whose test runs has called `run_tests`

@@ -33,7 +33,7 @@ use Rattle.xd_commands.specs.Functions.{called_in}
 use Rattle.xd_factory.specs.SideTable.{ChannelTable, answer, heard_of_message, lost}
 use Rattle.xd_worker.specs.Talk.{sent_how, payload_on}
 use Rattle.xd_worker.specs.Worker.{Service, Worker, WorkerTurn, worker_turn_of, running_in}
-use Rattle.xd_worker.specs.Turns.{Told, SuiteRead, NoSuite, Printed, ChildEnded, LinkEnded, at_talk, asked, all_asked, ended_call, given_in, fed, fed_to, called, is_called, is_service, echoed, echoed_how, echo_ended, worker_stopped, did, did_unless, took, suite_read, suite_refused, suite_input, ids_to_collect, worker_turned}
+use Rattle.xd_worker.specs.Turns.{Told, SuiteRead, NoSuite, Printed, ChildEnded, LinkEnded, at_talk, asked, all_asked, ended_call, given_in, fed, fed_to, called, is_called, is_service, echoed, echoed_how, echo_ended, worker_stopped, did, did_unless, took, suite_read, suite_refused, suite_input, ids_to_collect, tests_to_run, worker_turned}
 use Rattle.xd_worker_serve.specs.inner.Running.{call_of_service, rests}
 use Rattle.xd_worker.specs.Inputs.{is_terminate_kind}
 use Rattle.xd_worker_serve.proofs.Calls.{Fresh, idle, answered_idle, answered_end, answered_output}
@@ -180,8 +180,8 @@ step_does t u c s = record {
 called_does : (k : ℕ) (c : Called) (t : WorkerTurn) → Calm t → Does false (called k c t)
 called_does k (Runs function.Echo) t m = calm_does (called k (Runs function.Echo) t) m
 called_does k (Runs (function.Fail text)) t m = calm_does (called k (Runs (function.Fail text)) t) m
-called_does k (Runs (function.RunTests path mode)) t m = record {
-  ready = ready_idle (called k (Runs (function.RunTests path mode)) t) refl m.run;
+called_does k (Runs (function.RunTests work)) t m = record {
+  ready = ready_idle (called k (Runs (function.RunTests work)) t) refl m.run;
   stopped = m.unstopped;
   path = λ p e. (m.run, refl);
   ends = λ e. cc;
@@ -316,14 +316,17 @@ step_plain t u c s = record { ready = s.ready; unstopped = s.rest.stopped ∙ c.
 pub suite_does : (w : Worker) (ts : List Test) (n : ℕ) → Waits w → Plain (worker_turned (SuiteRead ts) n (worker_turn_of w))
 suite_does w ts n i = go w.duties.owed
   where
+    us : List Test
+    us = tests_to_run w.duties.service ts
+
     u : WorkerTurn
-    u = record (worker_turn_of w) { duties = record (w.duties) { owed = false; tests = ts } }
+    u = record (worker_turn_of w) { duties = record (w.duties) { owed = false; tests = us } }
 
     c : Calm u
     c = record { idle = i.idle; run = refl; suite = refl; unstopped = i.unstopped }
 
     go : (b : Bool) → Plain (if b then suite_read ts n (worker_turn_of w) else worker_turn_of w)
-    go true = step_plain u (suite_read ts n (worker_turn_of w)) c (fed_idle (suite_input (ids_to_collect w.duties.service ts)) n u i.idle refl)
+    go true = step_plain u (suite_read ts n (worker_turn_of w)) c (fed_idle (suite_input (ids_to_collect w.duties.service us)) n u i.idle refl)
     go false = calm_plain (worker_turn_of w) (record { idle = i.idle; run = refl; suite = refl; unstopped = i.unstopped })
 
 pub no_suite_does : (w : Worker) (text : List ℕ) (n : ℕ) → Waits w → Plain (worker_turned (NoSuite text) n (worker_turn_of w))

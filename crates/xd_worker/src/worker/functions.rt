@@ -6,8 +6,8 @@ use super::WorkerCore;
 use crate::input::WorkerActions;
 use crate::talk::{Sent, begin_function, end_function, send, tell};
 use crate::tests_call::TestsCall;
-use xd_commands::{CallFault, Called, Function, fail_word, long_item_word, read_call};
-use xd_edge::{ModeKind, OutOfMemory, Text};
+use xd_commands::{CallFault, Called, Function, Work, fail_word, long_item_word, read_call};
+use xd_edge::{OutOfMemory, Text};
 use xd_journal::What;
 use xd_value::Value;
 use xd_worker_tests::RunTests;
@@ -86,11 +86,10 @@ impl WorkerCore {
         &mut self,
         acts: &mut WorkerActions,
         number: u32,
-        suite: Text,
-        mode: ModeKind,
+        work: Work,
     ) -> Result<(), OutOfMemory>
         ensures { (t : WorkerTurn) → IsWorkerTurn self.old acts.old t →
-            OnOk result (IsWorkerTurn self.new acts.new (tests_begun number suite mode t)) }
+            OnOk result (IsWorkerTurn self.new acts.new (tests_begun number work t)) }
     {
         begin_function(&mut self.side, number);
         tell(
@@ -102,12 +101,13 @@ impl WorkerCore {
         )?;
         self.tests_call = Some(TestsCall {
             channel: number,
-            mode,
+            mode: work.mode,
+            pick: work.pick,
             function: RunTests::new(self.alloc),
             ended: false,
         });
         self.owed = true;
-        acts.suite = Some(suite);
+        acts.suite = Some(work.suite);
         Ok(())
     }
 
@@ -129,8 +129,8 @@ impl WorkerCore {
                 self.fail(acts, number, text)?;
                 Ok(())
             }
-            Function::RunTests { suite, mode } => {
-                self.begin_tests(acts, number, suite, mode)?;
+            Function::RunTests(work) => {
+                self.begin_tests(acts, number, work)?;
                 Ok(())
             }
         }
@@ -168,7 +168,7 @@ impl WorkerCore {
             OnOk result (IsWorkerTurn self.new acts.new
             (called number (called_in (is_called t.duties.service) (view value.now)) t)) }
     {
-        let call = read_call(value, self.tests_call.is_some())?;
+        let call = read_call(self.alloc, value, self.tests_call.is_some())?;
         self.begin(acts, number, call)?;
         Ok(())
     }

@@ -3,6 +3,7 @@ ghost use Rattle.std.specs.Prelude.{◌≡◌, IfOk, OnOk, IsSome, length, ◌<�
 
 use super::WorkerCore;
 use crate::input::WorkerActions;
+use crate::pick::chosen;
 use std::alloc::Global;
 use xd_commands::{event_value, large_suite_word, unread_suite_word};
 use xd_edge::{Blob, OutOfMemory, Text, Texts};
@@ -14,9 +15,23 @@ use xd_worker_tests::Input;
 impl WorkerCore {
     ghost use Rattle.xd_worker.specs.declared.input.WorkerInput.TheVariants.{SuiteBytes, SuiteTooLarge, SuiteUnread, Output, ChildDone};
     ghost use Rattle.xd_worker.specs.Worker.{Worker, WorkerTurn, Service, worker_turn_of};
-    ghost use Rattle.xd_worker.specs.Turns.{SuiteRead, NoSuite, ids_to_collect, suite_read, suite_refused, worker_turned};
+    ghost use Rattle.xd_worker.specs.Turns.{SuiteRead, NoSuite, ids_to_collect, suite_read, suite_refused, tests_to_run, worker_turned};
     ghost use Rattle.xd_worker.specs.Logs.{AllOpen, LogsOpen};
     ghost use Rattle.xd_worker.specs.Stands.{IsWorkerTurn, AreServices, Does};
+
+    // The tests of a suite that the call is for.
+    fn tests_to_run(&self, suite: Suite) -> Result<Suite, OutOfMemory>
+        ensures { (s : Option Service) → AreServices self.now.tests_call s →
+            IfOk result (λ tests. tests ≡ tests_to_run s suite) }
+    {
+        match &self.tests_call {
+            None => Ok(suite),
+            Some(tests_call) => {
+                let tests = chosen(suite, self.alloc, &tests_call.pick)?;
+                Ok(tests)
+            }
+        }
+    }
 
     // The ids of a suite, in the mode of the call.
     fn ids(&self, suite: &Suite) -> Result<Texts, OutOfMemory>
@@ -46,10 +61,11 @@ impl WorkerCore {
             AllOpen (suite_read suite channels t).logs →
             OnOk result (IsWorkerTurn self.new acts.new (suite_read suite channels t)) }
     {
-        let ids = self.ids(&suite)?;
+        let tests = self.tests_to_run(suite)?;
+        let ids = self.ids(&tests)?;
         let input = collection(self.alloc, ids)?;
         self.owed = false;
-        self.suite = Some(suite);
+        self.suite = Some(tests);
         self.feed(acts, input, channels)?;
         Ok(())
     }

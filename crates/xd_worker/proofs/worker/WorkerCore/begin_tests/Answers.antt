@@ -13,7 +13,7 @@ returns c = λ t h. record {
   duties_are = record {
     good = h.duties_are.good;
     stopped_is = h.duties_are.stopped_is;
-    services_are = record { channel_is = refl; mode_is = refl; ended_is = refl; follows = c.new.ensures.history };
+    services_are = record { channel_is = refl; mode_is = refl; pick_is = refl; ended_is = refl; follows = c.new.ensures.history };
     echoes_are = h.duties_are.echoes_are;
     owed_is = refl;
     tests_are = h.duties_are.tests_are;
