@@ -45,7 +45,7 @@ use Rattle.xd_system.specs.Own.{is_told_to}
 use Rattle.xd_system.proofs.Runs.{member-fold}
 use Rattle.xd_system_messages.specs.Bridge.{CanBeCalled}
 use Rattle.xd_system_messages.specs.Steps.{entries_to}
-use Rattle.xd_dist.specs.Linked.{EndedLink, LinkedRun, LinksSeen, Setup, scene_told}
+use Rattle.xd_dist.specs.Linked.{EndedLink, LinkedRun, LinksSeen, Setup, scene_told, work_of}
 use Rattle.xd_complete.specs.Complete.{AnHonestRunCompletes, EndsAsWritten, GivesAll, IsComplete, NothingRose, WrotePiece, WroteRefusal, WroteUnequal, bytes_of_supply, is_loss}
 use Rattle.xd_complete.specs.Says.{SaysAll}
 use Rattle.xd_complete.proofs.Alive.{none-died, taken-member}
@@ -117,7 +117,7 @@ not_over e es how other i = by_part (in_join e es (Over how ∷ []) i)
     by_part (inl k) = k
     by_part (inr k) = absurd (other (only k.0 k.1 k.2))
 
-module _ (setup : Setup) (j : Journal) (code : ℕ) (links : List EndedLink) (old new : LinksSeen) (moments : List TurnScene) (proper : IsProper setup.settings []) (c : CanBeCalled setup.suite setup.settings.mode)
+module _ (setup : Setup) (j : Journal) (code : ℕ) (links : List EndedLink) (old new : LinksSeen) (moments : List TurnScene) (proper : IsProper setup.settings []) (c : CanBeCalled (work_of setup))
     (run : LinkedRun setup j code links old new moments) (still : NothingRose links old new) (gives : All (λ l. ∥ GivesAll setup j l ∥₁) links) where
   abbrev settings : Settings
   settings = setup.settings
@@ -171,7 +171,7 @@ module _ (setup : Setup) (j : Journal) (code : ℕ) (links : List EndedLink) (ol
 
   -- what is known of each link
   record Carries (l : EndedLink) : Type 0 where
-    ran : ∥ RanSo setup.suite settings.mode run.runs.given run.runs.calls refused l.worker l.link ∥₁
+    ran : ∥ RanSo (work_of setup) run.runs.given run.runs.calls refused l.worker l.link ∥₁
     all : ∥ GivesAll setup j l ∥₁
     read : l.link.spring.faults ≡ 0
     sent : l.link.writes ≡ 0
@@ -183,7 +183,7 @@ module _ (setup : Setup) (j : Journal) (code : ℕ) (links : List EndedLink) (ol
   record Tells (w : ℕ) (l : EndedLink) : Type 0 where
     supply : Supply
     told : l.link.spring.supply ≡ Some supply
-    tells : LinkTells setup.suite settings given w (bytes_of_supply supply)
+    tells : LinkTells (work_of setup) settings given w (bytes_of_supply supply)
 
   module _ (w : ℕ) (first : has_member w (λ m. true) (begun_run settings).state.books ≡ true) where
     has_link_listed : is_listed w (map (λ l. l.worker) links) ≡ true
@@ -197,18 +197,18 @@ module _ (setup : Setup) (j : Journal) (code : ℕ) (links : List EndedLink) (ol
     its_link : IsFound Carries links w
     its_link = found Carries links w each has_link_listed
 
-    link_ran : (l : EndedLink) → l.worker ≡ w → RanSo setup.suite settings.mode run.runs.given run.runs.calls refused l.worker l.link → RanSo setup.suite settings.mode given run.runs.calls [] w l.link
+    link_ran : (l : EndedLink) → l.worker ≡ w → RanSo (work_of setup) run.runs.given run.runs.calls refused l.worker l.link → RanSo (work_of setup) given run.runs.calls [] w l.link
     link_ran l its r =
-        subst (λ (u : ℕ). RanSo setup.suite settings.mode given run.runs.calls [] u l.link) its
-        (subst (λ (n : List News). RanSo setup.suite settings.mode n run.runs.calls [] l.worker l.link) given_are
-        (subst (λ (ws : List ℕ). RanSo setup.suite settings.mode run.runs.given run.runs.calls ws l.worker l.link) none_refused r))
+        subst (λ (u : ℕ). RanSo (work_of setup) given run.runs.calls [] u l.link) its
+        (subst (λ (n : List News). RanSo (work_of setup) n run.runs.calls [] l.worker l.link) given_are
+        (subst (λ (ws : List ℕ). RanSo (work_of setup) run.runs.given run.runs.calls ws l.worker l.link) none_refused r))
 
     its_tells : ∥ Tells w its_link.link ∥₁
     its_tells = ∥∥₁_map₂ its_link.holds.ran its_link.holds.all (λ r g. record {
       supply = g.supply;
       told = g.told;
-      tells = link_tells setup.suite settings proper c given w first _ its_link.link.link g.supply (link_ran its_link.link its_link.its r) g.told its_link.holds.read its_link.holds.sent
-          (subst (λ (es : List Entry). SaysAll setup.suite settings.mode es (bytes_of_supply g.supply)) (ap (λ (u : ℕ). entries_to u j.entries.items) its_link.its ∙ orders_are w) g.says);
+      tells = link_tells (work_of setup) settings proper c given w first _ its_link.link.link g.supply (link_ran its_link.link its_link.its r) g.told its_link.holds.read its_link.holds.sent
+          (subst (λ (es : List Entry). SaysAll (work_of setup) es (bytes_of_supply g.supply)) (ap (λ (u : ℕ). entries_to u j.entries.items) its_link.its ∙ orders_are w) g.says);
     })
 
     alive : list_any (is_death_of w) (run_of settings taken).entries ≡ false

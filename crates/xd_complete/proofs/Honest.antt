@@ -3,7 +3,7 @@ use Rattle.std.proofs.Common.{◌≡◌, ◌⊎◌, ℕ, ◌<◌, List, [], ◌�
 use Rattle.std.specs.Prelude.{◌==◌, Option, Some, None, option_to_list, unwrap_or, IfSome, Result, Ok, Err, if◌then◌else◌}
 use Rattle.std.specs.List.{filter_map, list_any}
 use Rattle.std.proofs.lemmas.List.Folds.{list_any-append}
-use Rattle.xd_edge.specs.declared.mode.ModeKind.{ModeKind}
+use Rattle.xd_commands.specs.declared.work.Work.{Work}
 use Rattle.xd_link.specs.Source.{Supply}
 use Rattle.xd_link.specs.Spring.{ReadToEnd, Spring}
 use Rattle.xd_value.specs.Tree.{Tree}
@@ -177,7 +177,7 @@ all_given cause.Breach bytes s writes supply told given whole read sent k = absu
 
 -- ---- what the worker's call tells
 
-module _ (suite : List ℕ) (settings : Settings) (proper : IsProper settings []) (c : CanBeCalled suite settings.mode) (w : ℕ) (taken : List News) where
+module _ (work : Work) (settings : Settings) (proper : IsProper settings []) (c : CanBeCalled work) (w : ℕ) (taken : List News) where
   -- the call of a worker, whose news these bytes are
   record IsCallOf (bytes : List ℕ) : Type 0 where
     given : List Given
@@ -186,10 +186,10 @@ module _ (suite : List ℕ) (settings : Settings) (proper : IsProper settings []
     are : IsNewsOf (link_messages true bytes) (tells given)
     left : has_left (tells given) ≡ true
 
-  call_is : (bytes : List ℕ) → SaysAll suite settings.mode (entries_to w (run_of settings taken).entries) bytes → IsCallOf bytes
+  call_is : (bytes : List ℕ) → SaysAll work (entries_to w (run_of settings taken).entries) bytes → IsCallOf bytes
   call_is bytes a =
       let es = entries_to w (run_of settings taken).entries in
-      let b = says_what_it_tells suite settings.mode es a.inputs a.history c (subst AreSayable (sym (orders_as_entries w (run_of settings taken).entries)) (run_sayable settings taken w proper)) a.heard a.given a.no_end a.ordered some in
+      let b = says_what_it_tells work es a.inputs a.history c (subst AreSayable (sym (orders_as_entries w (run_of settings taken).entries)) (run_sayable settings taken w proper)) a.heard a.given a.no_end a.ordered some in
       let called : IsHeardAsCalled (filter_map order_of es) a.history b.0.given = b.2 in
       let same : a.news ≡ tells b.0.given = one_news (all_said a.history) a.news (tells b.0.given) a.are called.says in
       record {
@@ -207,25 +207,25 @@ module _ (suite : List ℕ) (settings : Settings) (proper : IsProper settings []
           differ (ap has_left (sym silent) ∙ a.left)
 
 -- What a whole link of an honest worker left: the news that its bytes are, and what was taken of it.
-pub record LinkTells (suite : List ℕ) (settings : Settings) (given : List News) (w : ℕ) (bytes : List ℕ) : Type 0 where
+pub record LinkTells (work : Work) (settings : Settings) (given : List News) (w : ℕ) (bytes : List ℕ) : Type 0 where
   pub news : List What
   pub are : IsNewsOf (link_messages true bytes) news
   pub part : IsFirstPart (said_by w (taken_of settings given)) news
   pub alive : list_any (is_death_of w) (run_of settings (taken_of settings given)).entries ≡ false
 
-pub link_tells : (suite : List ℕ) (settings : Settings) (proper : IsProper settings []) (c : CanBeCalled suite settings.mode) (given : List News) (w : ℕ)
+pub link_tells : (work : Work) (settings : Settings) (proper : IsProper settings []) (c : CanBeCalled work) (given : List News) (w : ℕ)
     → has_member w (λ m. true) (begun_run settings).state.books ≡ true
-    → (orders : List Entry) (l : Link) (supply : Supply) → LinkRun suite settings.mode (said_by w given) orders l
+    → (orders : List Entry) (l : Link) (supply : Supply) → LinkRun work (said_by w given) orders l
     → l.spring.supply ≡ Some supply → l.spring.faults ≡ 0 → l.writes ≡ 0
-    → SaysAll suite settings.mode (entries_to w (run_of settings (taken_of settings given)).entries) (supply.given ++ supply.left)
-    → LinkTells suite settings given w (supply.given ++ supply.left)
-link_tells suite settings proper c given w first orders l supply ran told read sent a = record { news = tells k.given; are = k.are; part = part; alive = alive }
+    → SaysAll work (entries_to w (run_of settings (taken_of settings given)).entries) (supply.given ++ supply.left)
+    → LinkTells work settings given w (supply.given ++ supply.left)
+link_tells work settings proper c given w first orders l supply ran told read sent a = record { news = tells k.given; are = k.are; part = part; alive = alive }
   where
     taken : List News
     taken = taken_of settings given
 
-    k : IsCallOf suite settings proper c w taken (supply.given ++ supply.left)
-    k = call_is suite settings proper c w taken (supply.given ++ supply.left) a
+    k : IsCallOf work settings proper c w taken (supply.given ++ supply.left)
+    k = call_is work settings proper c w taken (supply.given ++ supply.left) a
 
     gave : supply.given ≡ ran.bytes
     gave = subst (λ (o : Option Supply). IfSome o (λ u. u.given ≡ ran.bytes)) told ran.given

@@ -19,7 +19,7 @@ use Rattle.xd_gateway.specs.News.{IsNewsOf}
 use Rattle.xd_system_messages.specs.Bridge.{CanBeCalled}
 use Rattle.xd_system_messages.specs.Steps.{entries_to}
 use Rattle.xd_complete.specs.Says.{SaysAll}
-use Rattle.xd_dist.specs.Linked.{EndedLink, LinkedRun, LinksSeen, Setup}
+use Rattle.xd_dist.specs.Linked.{EndedLink, LinkedRun, LinksSeen, Setup, work_of}
 
 -- No count of faults rose in the run: not that of the starter, of the crew or of the output, and not that of a link's
 -- source or sink.
@@ -46,7 +46,7 @@ pub record Wrote (l : EndedLink) (news : List What) : Type 0 where
 pub record GivesAll (setup : Setup) (j : Journal) (l : EndedLink) : Type 0 where
   pub supply : Supply
   pub told : l.link.spring.supply ≡ Some supply
-  pub says : SaysAll setup.suite setup.settings.mode (entries_to l.worker j.entries.items) (bytes_of_supply supply)
+  pub says : SaysAll (work_of setup) (entries_to l.worker j.entries.items) (bytes_of_supply supply)
 
 -- a worker went down, could not be started, or was killed
 abbrev pub is_loss : Entry → Bool
@@ -105,6 +105,6 @@ pub record IsComplete (links : List EndedLink) (j : Journal) : Type 0 where
 abbrev pub AnHonestRunCompletes : Type 0
 AnHonestRunCompletes =
     (setup : Setup) (j : Journal) (code : ℕ) (links : List EndedLink) (old new : LinksSeen) (moments : List TurnScene)
-    → IsProper setup.settings [] → CanBeCalled setup.suite setup.settings.mode
+    → IsProper setup.settings [] → CanBeCalled (work_of setup)
     → LinkedRun setup j code links old new moments → NothingRose links old new
     → All (λ l. ∥ GivesAll setup j l ∥₁) links → IsComplete links j

@@ -1,6 +1,6 @@
 -- What the bytes of a link say that an honest worker wrote.
 use Rattle.std.specs.Prelude.{◌≡◌, ℕ, Bool, true, false, List, []}
-use Rattle.xd_edge.specs.declared.mode.ModeKind.{ModeKind}
+use Rattle.xd_commands.specs.declared.work.Work.{Work}
 use Rattle.xd_journal.specs.declared.entry.Entry.{Entry}
 use Rattle.xd_journal.specs.declared.news.What.{What}
 use Rattle.xd_reader.specs.declared.news.LinkStop.TheVariants.{Ended}
@@ -16,13 +16,13 @@ use Rattle.xd_system_messages.specs.Given.{AreGiven}
 -- The bytes end at the edge of a message, and are all that an honest worker says to which the call of `run_tests` and
 -- the first ones of these orders came, up to where it finished or closed its channel.
 -- Example: the greeting, and the messages of a worker that ran both tests of its suite and said that it has finished.
-pub record SaysAll (suite : List ℕ) (mode : ModeKind) (orders : List Entry) (bytes : List ℕ) : Type 0 where
+pub record SaysAll (work : Work) (orders : List Entry) (bytes : List ℕ) : Type 0 where
   pub inputs : List WorkerInput
   pub history : List HeardInput
   pub heard : AreHeardInputs inputs history
   pub given : AreGiven history
   pub no_end : has_link_end inputs ≡ false
-  pub ordered : IsFirstPart (messages_in inputs) (to_link suite mode orders [])
+  pub ordered : IsFirstPart (messages_in inputs) (to_link work orders [])
   pub says : link_messages true bytes ≡ all_said history
   pub whole : link_stop true bytes ≡ Ended
   pub news : List What

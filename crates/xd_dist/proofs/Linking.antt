@@ -6,7 +6,8 @@ use Rattle.std.proofs.lemmas.Simd.{map-map}
 use Rattle.std.proofs.Common.{◌≡◌, ℕ, List, [], ◌++◌, length, map, false, not, Option, Some, None, refl, sym, ◌∙◌, ap, subst, All}
 use Rattle.xd_edge.specs.Faults.{Counted, RoseBy}
 use Rattle.xd_edge.specs.Sink.{Sunk}
-use Rattle.xd_edge.specs.declared.mode.ModeKind.{ModeKind}
+use Rattle.xd_commands.specs.declared.work.Work.{Work}
+use Rattle.xd_journal.specs.declared.settings.Settings.{Settings}
 use Rattle.xd_link.specs.Starter.{Begun}
 use Rattle.xd_link.specs.declared.place.Place.{Place}
 use Rattle.xd_link.specs.declared.starter.StartRun.{StartRun}
@@ -30,7 +31,7 @@ use Rattle.xd_group.specs.Returned.{RanSo, end_told}
 use Rattle.xd_group.specs.Tells.{marks_told, workers_started}
 use Rattle.xd_group.specs.Unsaid.{SaidUnlinked}
 use Rattle.xd_group.specs.declared.fate.Fate.{Fate}
-use Rattle.xd_dist.specs.Linked.{DrivesTo, EndedLink, LinkedRun, RunsLinked, LinksSeen, Setup, scene_told}
+use Rattle.xd_dist.specs.Linked.{DrivesTo, EndedLink, LinkedRun, RunsLinked, LinksSeen, Setup, scene_told, work_of}
 
 -- a hub that was called for nothing and gave nothing has marked no worker
 pub unmarked : (calls : List Entry) (given : List News) → calls ≡ [] → given ≡ [] → (w : ℕ) → marks_told calls given w ≡ no_marks
@@ -54,28 +55,31 @@ pub begun_from : (first : Option Begun) (now : Option ToldByStarter) (more : Lis
 begun_from None now more asked e = e
 begun_from (Some b) now more asked e = e
 
+-- the work of a hub's workers, by its settings
+pub work_is : (w : Work) (s : Settings) → w.mode ≡ s.mode → w ≡ record { suite = w.suite; mode = s.mode; pick = w.pick }
+work_is w s e = ap (λ (m : _). record { suite = w.suite; mode = m; pick = w.pick }) e
+
 -- a run by what the hub took and gave and what its links left
-pub runs_linked : {A : Type 0} (seen : A → EndedLink) (ends : List A) (setup : Setup) (now : List ℕ) (mode : ModeKind) (j : Journal) (calls : List Entry) (given : List News) (workers : List ℕ) (fates : List Fate) (places : List Place)
+pub runs_linked : {A : Type 0} (seen : A → EndedLink) (ends : List A) (setup : Setup) (now : Work) (j : Journal) (calls : List Entry) (given : List News) (workers : List ℕ) (fates : List Fate) (places : List Place)
     (first : Option Begun) (last : Option ToldByStarter) (starter_old starter_new crew_old crew_new out_old out_new : ℕ) (s0 s1 : Option Sunk) (ms : List TurnScene)
-    → now ≡ setup.suite → mode ≡ setup.settings.mode → workers ≡ workers_started calls → length fates ≡ length workers → places ≡ setup.places → DrivesTo j calls given s0 s1 ms
+    → now ≡ work_of setup → workers ≡ workers_started calls → length fates ≡ length workers → places ≡ setup.places → DrivesTo j calls given s0 s1 ms
     → map (λ a. (seen a).worker) ends ≡ workers_with has_link workers fates
-    → All (λ a. ∥ RanSo now mode given calls (workers_with is_refused workers fates) (seen a).worker (seen a).link ∥₁) ends
+    → All (λ a. ∥ RanSo now given calls (workers_with is_refused workers fates) (seen a).worker (seen a).link ∥₁) ends
     → last ≡ option_map (λ b. record { starts = b.starts ++ all_started places (starts_of calls) fates; links = map link_asked b.links ++ map (λ a. end_told (seen a).killed) ends }) first
     → All (λ a. ∥ EndKilledSo calls given (workers_with is_refused workers fates) (seen a).worker (seen a).killed (seen a).link.writes ∥₁) ends
     → ((w : ℕ) → is_listed w (workers_with is_linked workers fates) ≡ false → ∥ SaidUnlinked given w ∥₁)
     → RoseFor (count_with is_refused fates) crew_old crew_new → RoseBy (count_with is_unlinked fates) starter_old starter_new
     → RunsLinked setup j (map seen ends) (record { begun = option_map told_of first; starter_faults = starter_old; crew_faults = crew_old; sunk = s0; out_faults = out_old }) (record { begun = last; starter_faults = starter_new; crew_faults = crew_new; sunk = s1; out_faults = out_new }) ms
-runs_linked {A} seen ends setup now mode j calls given workers fates places first last starter_old starter_new crew_old crew_new out_old out_new s0 s1 ms same in_mode listed matched at drives all each begun killed unlinked refused failed = record {
+runs_linked {A} seen ends setup now j calls given workers fates places first last starter_old starter_new crew_old crew_new out_old out_new s0 s1 ms same listed matched at drives all each begun killed unlinked refused failed = record {
   calls = calls;
   given = given;
   fates = fates;
   drives = drives;
   matched = matched ∙ ap (λ (ws : List ℕ). length ws) listed;
   all = map-map (λ l. l.worker) seen ends ∙ (all ∙ ap (λ (ws : List ℕ). workers_with has_link ws fates) listed);
-  each = All-map (λ l. ∥ RanSo setup.suite setup.settings.mode given calls (workers_with is_refused (workers_started calls) fates) l.worker l.link ∥₁) seen ends
-      (subst (λ (ws : List ℕ). All (λ a. ∥ RanSo setup.suite setup.settings.mode given calls (workers_with is_refused ws fates) (seen a).worker (seen a).link ∥₁) ends) listed
-      (subst (λ (k : ModeKind). All (λ a. ∥ RanSo setup.suite k given calls (workers_with is_refused workers fates) (seen a).worker (seen a).link ∥₁) ends) in_mode
-      (subst (λ (l : List ℕ). All (λ a. ∥ RanSo l mode given calls (workers_with is_refused workers fates) (seen a).worker (seen a).link ∥₁) ends) same each)));
+  each = All-map (λ l. ∥ RanSo (work_of setup) given calls (workers_with is_refused (workers_started calls) fates) l.worker l.link ∥₁) seen ends
+      (subst (λ (ws : List ℕ). All (λ a. ∥ RanSo (work_of setup) given calls (workers_with is_refused ws fates) (seen a).worker (seen a).link ∥₁) ends) listed
+      (subst (λ (l : Work). All (λ a. ∥ RanSo l given calls (workers_with is_refused workers fates) (seen a).worker (seen a).link ∥₁) ends) same each));
   begun = subst (λ (ps : List Place). last ≡ option_map (λ b. record { starts = b.starts ++ all_started ps (starts_of calls) fates; links = b.links ++ map (λ l. end_told l.killed) (map seen ends) }) (option_map told_of first)) at
       (subst (λ (asked : List AskedOfLink). last ≡ option_map (λ b. record { starts = b.starts ++ all_started places (starts_of calls) fates; links = b.links ++ asked }) (option_map told_of first)) (sym (map-map (λ l. end_told l.killed) seen ends))
       (begun_from first last (all_started places (starts_of calls) fates) (map (λ a. end_told (seen a).killed) ends) begun));

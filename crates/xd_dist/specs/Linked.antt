@@ -10,6 +10,8 @@ use Rattle.xd_journal.specs.declared.entry.Entry.{Entry}
 use Rattle.xd_journal.specs.declared.journal.Journal.{Journal}
 use Rattle.xd_journal.specs.declared.news.News.{News}
 use Rattle.xd_journal.specs.declared.settings.Settings.{Settings}
+use Rattle.xd_commands.specs.declared.work.Pick.{Pick}
+use Rattle.xd_commands.specs.declared.work.Work.{Work}
 use Rattle.xd_run.specs.Ending.{stop_of}
 use Rattle.xd_report.specs.Status.{status_of}
 use Rattle.xd_session.specs.Ends.{is_out_fault}
@@ -29,16 +31,22 @@ use Rattle.xd_group.specs.declared.fate.Fate.{Fate}
 use Rattle.xd_group.specs.declared.finish.LinkEnd.{LinkEnd}
 use Rattle.xd_dist.specs.declared.linked.LinkedSuite.{LinkedSuite}
 
--- what a run is made of: the path of its suite, its settings, and the places of its workers, by slots
+-- what a run is made of: the path of its suite, the tests that are picked of it, its settings, and the places of its
+-- workers, by slots
 -- Example: two workers, the second in another folder.
 pub record Setup : Type 0 where
   pub suite : List ℕ
+  pub pick : Option Pick
   pub settings : Settings
   pub places : List Place
 
 -- the run that a suite asks for
 abbrev pub setup_of : LinkedSuite → Setup
-setup_of s = record { suite = s.path; settings = s.settings; places = s.places.items }
+setup_of s = record { suite = s.path; pick = s.pick; settings = s.settings; places = s.places.items }
+
+-- what each worker of a run is called for
+abbrev pub work_of : Setup → Work
+work_of setup = record { suite = setup.suite; mode = setup.settings.mode; pick = setup.pick }
 
 -- what is seen of a hub that took these calls and gave these news, and of the output
 abbrev pub scene_told : List Entry → List News → Option Sunk → HubScene
@@ -92,7 +100,7 @@ pub record RunsLinked (setup : Setup) (j : Journal) (links : List EndedLink) (ol
   pub drives : DrivesTo j calls given old.sunk new.sunk moments
   pub matched : length fates ≡ length (workers_started calls)
   pub all : map (λ l. l.worker) links ≡ workers_with has_link (workers_started calls) fates
-  pub each : All (λ l. ∥ RanSo setup.suite setup.settings.mode given calls (workers_with is_refused (workers_started calls) fates) l.worker l.link ∥₁) links
+  pub each : All (λ l. ∥ RanSo (work_of setup) given calls (workers_with is_refused (workers_started calls) fates) l.worker l.link ∥₁) links
   pub begun : AddsBegun setup.places calls fates links old.begun new.begun
   pub killed : All (λ l. ∥ EndKilledSo calls given (workers_with is_refused (workers_started calls) fates) l.worker l.killed l.link.writes ∥₁) links
   pub unlinked : (w : ℕ) → is_listed w (workers_with is_linked (workers_started calls) fates) ≡ false → ∥ SaidUnlinked given w ∥₁

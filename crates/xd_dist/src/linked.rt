@@ -1,6 +1,5 @@
 // A suite is run on workers.
-ghost use Rattle.std.specs.Prelude.{◌≡◌, ◌≤◌, [], true, not, length, vec_len, Ok, IfOk, OnOk, OnErr};
-ghost use Rattle.std.specs.Str.{encode_utf8_all};
+ghost use Rattle.std.specs.Prelude.{◌≡◌, ◌≤◌, [], true, not, vec_len, Ok, IfOk, OnOk, OnErr};
 ghost use Rattle.xd_edge.specs.Faults.{Counted};
 ghost use Rattle.xd_session.specs.Ends.{is_out_fault};
 ghost use Rattle.xd_run.specs.Ending.{stop_of};
@@ -13,10 +12,12 @@ ghost use Rattle.std.specs.List.{list_all};
 ghost use Rattle.xd_starts.specs.Children.{is_killed_and_reaped};
 ghost use Rattle.xd_drive.specs.Moments.{turns_of};
 ghost use Rattle.xd_group.specs.Diaries.{diary_tells};
-ghost use Rattle.xd_dist.specs.Linked.{LinkedRun, RunsLinked, ended_links, links_seen, setup_of};
+ghost use Rattle.xd_dist.specs.Linked.{LinkedRun, RunsLinked, ended_links, links_seen, setup_of, work_of};
+ghost use Rattle.xd_group_peer.specs.ToLink.{CallFits};
 
 use std::alloc::Global;
 use std::sync::Wait;
+use xd_commands::{Pick, Work};
 use xd_crew::Crew;
 use xd_drive::{DrivenRun, drive};
 use xd_edge::{ModeKind, OutOfMemory, Sink, Text};
@@ -38,6 +39,8 @@ use xd_trace::Moments;
 pub struct LinkedSuite {
     /// The path under which each worker reads the suite.
     pub path: Text,
+    /// The tests that are picked of it; all of them without a pick.
+    pub pick: Option<Pick>,
     pub settings: Settings,
     /// Where the worker of each slot is started.
     pub places: Vec<Place>,
@@ -69,12 +72,13 @@ fn run_over<R: Wait, M: Mode, St: Starter, C: Crew<Reader<St::Src>>, O: Sink>(
     requires slots { session.settings.workers ≤ vec_len hub.old.places }
     requires no_calls { noted hub.old.group.diary.calls ≡ [] }
     requires no_news { noted hub.old.group.diary.given ≡ [] }
-    requires mode { hub.old.group.mode ≡ session.settings.mode }
+    requires mode { hub.old.group.work.mode ≡ session.settings.mode }
     ensures journal { IfOk result (λ r. IsJournalOf session.settings r.0.journal) }
     ensures status { IfOk result (λ r. r.0.status ≡ status_of r.0.journal) }
     ensures runs { IfOk result (λ r. RunsLinked
         (record {
-          suite = hub.old.group.suite;
+          suite = hub.old.group.work.suite;
+          pick = hub.old.group.work.pick;
           settings = session.settings;
           places = hub.old.places.items;
         })
@@ -149,7 +153,7 @@ pub fn run_linked<R: Wait, St: Starter, C: Crew<Reader<St::Src>>, O: Sink>(
 ) -> Result<Linked<St, C, O>, OutOfMemory>
     requires settings { CanBegin suite.settings }
     requires slots { suite.settings.workers ≤ vec_len suite.places }
-    requires short { length (encode_utf8_all suite.path) ≤ 65536 }
+    requires fits { CallFits (work_of (setup_of suite)) }
     ensures ran { IfOk result (λ e. LinkedRun (setup_of suite) e.journal e.status
         (ended_links St.Src.supply St.Src.is_ended St.Src.faults St.Snk.sunk St.Snk.faults
         e.links.items)
@@ -198,7 +202,7 @@ fn run_in<R: Wait, M: Mode, St: Starter, C: Crew<Reader<St::Src>>, O: Sink>(
     requires settings { CanBegin suite.settings }
     requires fresh { M.stands mode (no_one suite.settings).plan }
     requires slots { suite.settings.workers ≤ vec_len suite.places }
-    requires short { length (encode_utf8_all suite.path) ≤ 65536 }
+    requires fits { CallFits (work_of (setup_of suite)) }
     ensures ran { IfOk result (λ e. LinkedRun (setup_of suite) e.journal e.status
         (ended_links St.Src.supply St.Src.is_ended St.Src.faults St.Snk.sunk St.Snk.faults
         e.links.items)
@@ -211,11 +215,17 @@ fn run_in<R: Wait, M: Mode, St: Starter, C: Crew<Reader<St::Src>>, O: Sink>(
 {
     let LinkedSuite {
         path,
+        pick,
         settings,
         places,
     } = suite;
     let session = Session::new(alloc, settings, mode)?;
-    let mut hub = GatewayHub::new(alloc, places, path, settings.mode, starter, crew)?;
+    let work = Work {
+        suite: path,
+        mode: settings.mode,
+        pick,
+    };
+    let mut hub = GatewayHub::new(alloc, places, work, starter, crew)?;
     let ended = run_over(rt, alloc, session, &mut hub, out);
     end_workers(rt, &mut hub, &ended);
     let GatewayHub {
@@ -234,8 +244,7 @@ fn run_in<R: Wait, M: Mode, St: Starter, C: Crew<Reader<St::Src>>, O: Sink>(
         peers: _,
         spares: _,
         diary: _,
-        suite: _,
-        mode: _,
+        work: _,
         is_whole: _,
     } = group;
     let Links {

@@ -361,7 +361,7 @@ start_said work given workers pages i v w b x size z said (inr a) (inr d) = said
 
 start_own : (work : Work) (pages : List (Option Page)) (i : ℕ) (b : Bool) (x : Page) → ((k : ℕ) (p : Page) → slice_get pages k ≡ Some (Some p) → IsOwn work p)
     → ((i ≡ length pages) × (Some x ≡ page_opened work b)) ⊎ (slice_get pages i ≡ Some (Some x)) → IsOwn work x
-start_own work pages i true x own (inl a) = let same : first_page work ≡ x = (let e = a.1 in sym (cc e)) in subst (λ (p : Page). IsOwn work p) same (record { suite_is = refl; mode_is = refl; known = refl; on_time = refl })
+start_own work pages i true x own (inl a) = let same : first_page work ≡ x = (let e = a.1 in sym (cc e)) in subst (λ (p : Page). IsOwn work p) same (record { work_is = refl; known = refl; on_time = refl })
 start_own work pages i false x own (inl a) = absurd (let e = a.1 in cc e)
 start_own work pages i b x own (inr d) = own i x d
 

@@ -4,12 +4,12 @@ use Rattle.std.specs.Prelude.{◌==◌, ◌&&◌}
 use Rattle.std.specs.List.{list_any}
 use Rattle.std.proofs.lemmas.List.Folds.{list_any-append}
 use Rattle.xd_journal.specs.declared.entry.Entry.{Entry}
-use Rattle.xd_journal.specs.declared.entry.Entry.TheVariants.{Start}
+use Rattle.xd_journal.specs.declared.entry.Entry.TheVariants.{Kill, Start}
 use Rattle.xd_journal.specs.declared.news.News.{News}
 use Rattle.xd_drive.specs.Calls.{is_order}
 use Rattle.xd_drive.specs.Listed.{is_kill_of, was_killed}
 use Rattle.xd_journal.specs.Said.{is_end, is_ready}
-use Rattle.xd_drive.specs.Marks.{Marks, marked_heard, marked_started}
+use Rattle.xd_drive.specs.Marks.{Marks, marked_heard, marked_killed, marked_started}
 use Rattle.xd_drive.specs.Performing.{is_start_of, was_started}
 use Rattle.xd_group.specs.Tells.{marks_told}
 use Rattle.xd_group.proofs.Keeping.{order_starts}
@@ -38,6 +38,10 @@ marks_started calls all given same worker slot is gis w =
 pub marks_ordered : (calls all : List Entry) (given same : List News) (worker : ℕ) (e : Entry) → all ≡ calls ++ e ∷ [] → is_order worker e ≡ true → same ≡ given → (w : ℕ) → marks_told all same w ≡ marks_told calls given w
 marks_ordered calls all given same worker e is order gis w =
     rw (gis) (same_marks (was_started w all) (was_started w calls) (was_killed w all) (was_killed w calls) _ _ _ _ (any_same (is_start_of w) calls all e is (order_starts w worker e order)) (any_same (is_kill_of w) calls all e is (order_kills w worker e order)) refl refl)
+
+pub marks_killed : (calls all : List Entry) (given same : List News) (worker : ℕ) → all ≡ calls ++ Kill worker ∷ [] → same ≡ given → (w : ℕ) → marks_told all same w ≡ marked_killed worker w (marks_told calls given w)
+marks_killed calls all given same worker is gis w =
+    rw (gis) (same_marks (was_started w all) (was_started w calls) (was_killed w all) (was_killed w calls || (worker == w)) _ _ _ _ (any_same (is_start_of w) calls all (Kill worker) is refl) (any_more (is_kill_of w) calls all (Kill worker) is) refl refl)
 
 pub marks_heard : (calls same : List Entry) (given all : List News) (n : News) → all ≡ given ++ n ∷ [] → same ≡ calls → (w : ℕ) → marks_told same all w ≡ marked_heard n w (marks_told calls given w)
 marks_heard calls same given all n is cis w =

@@ -5,7 +5,7 @@ ghost use Rattle.std.specs.List.{list_all};
 ghost use Rattle.xd_journal.specs.declared.entry.Entry.TheVariants.{Start, Kill};
 ghost use Rattle.xd_drive.specs.Calls.{is_order};
 ghost use Rattle.xd_journal.specs.Said.{is_breach};
-ghost use Rattle.xd_drive.specs.Marks.{marked_heard, marked_started, may_tell};
+ghost use Rattle.xd_drive.specs.Marks.{marked_heard, marked_killed, marked_started, may_tell};
 ghost use Rattle.xd_trace.specs.Noted.{noted};
 ghost use Rattle.xd_group.specs.Diaries.{diary_tells};
 ghost use Rattle.xd_journal.specs.declared.entry.Entry.{Entry};
@@ -164,7 +164,7 @@ impl<St: Starter, C: Crew<Reader<St::Src>>> Hub for GatewayHub<St, C> {
 
     ghost made = { λ h. (h.group.work, h.places, h.children.first, h.group.first) };
 
-    ghost slots = { λ m. vec_len m.2 };
+    ghost slots = { λ m. vec_len m.1 };
 
     ghost marks = { λ h w. marks_told (noted h.group.diary.calls) (noted h.group.diary.given) w };
 
@@ -241,6 +241,9 @@ impl<St: Starter, C: Crew<Reader<St::Src>>> Hub for GatewayHub<St, C> {
             (noted self.old.group.diary.given) worker).started ≡ true }
         requires once { (marks_told (noted self.old.group.diary.calls)
             (noted self.old.group.diary.given) worker).killed ≡ false }
+        ensures marks { (w : ℕ) → marks_told (noted self.new.group.diary.calls)
+            (noted self.new.group.diary.given) w ≡ marked_killed worker w
+            (marks_told (noted self.old.group.diary.calls) (noted self.old.group.diary.given) w) }
         ensures called { noted self.new.group.diary.calls ≡ noted self.old.group.diary.calls
             ++ Kill worker ∷ [] }
         ensures given { noted self.new.group.diary.given ≡ noted self.old.group.diary.given }

@@ -67,10 +67,10 @@ mode_short mode.LoadGroup = omega arith
 mode_short mode.WorkSteal = omega arith
 
 pub whole_fits : (work : Work) → work.pick ≡ None → length (encode_utf8_all work.suite) ≤ 65536 → CallFits work
-whole_fits work none short = rw none (call_dumped work.suite (mode_text work.mode) short (mode_short work.mode))
+whole_fits work none short = record { written = rw none (call_dumped work.suite (mode_text work.mode) short (mode_short work.mode)) }
 
 pub fits_is : (work : Work) → is_ok (dumped (work_call work)) ≡ true → CallFits work
-fits_is work h = dumped_written (work_call work) h
+fits_is work h = record { written = dumped_written (work_call work) h }
 
 pub call_dumps : (name : List ℕ) (kwargs : Pairs) (work : Work) → name ≡ codes "run_tests" → kwargs ≡ call_kwargs work → dumped (call_tree name kwargs) ≡ dumped (work_call work)
 call_dumps name kwargs work n k = ap (λ (x : List ℕ). dumped (call_tree x kwargs)) n ∙ ap (λ (x : Pairs). dumped (call_tree (codes "run_tests") x)) k
@@ -85,7 +85,7 @@ module _ {K : Type 0} where
       let t = new.channels in
       let next : next_of s ≡ 1 = ap (λ (x : ChannelTable). x.next) t in
       let none = open_none s (ap (λ (x : ChannelTable). x.finished) t) (no_entries s (λ c. ap (λ (x : ChannelTable). x.slot c) t)) next in
-      let all : dumped (call_tree name kwargs) ≡ Ok (canonical (work_call work)) = call_dumps name kwargs work n k ∙ fits in
+      let all : dumped (call_tree name kwargs) ≡ Ok (canonical (work_call work)) = call_dumps name kwargs work n k ∙ fits.written in
       call_by s (dumped (call_tree name kwargs)) (canonical (work_call work)) all none next
 
 pub as_wanted : (wanted : Wanted) (m n : MessageView) (a b : GatewaySink) → wanted ≡ Ok m → wanted ≡ Ok n → PrintsBytes (frame n) a b → PrintsBytes (frame m) a b

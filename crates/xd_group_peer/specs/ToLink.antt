@@ -23,9 +23,10 @@ call_kwargs work = run_tests_kwargs work.suite (mode_text work.mode) work.pick
 abbrev pub work_call : Work → Tree
 work_call work = run_tests_call work.suite (mode_text work.mode) work.pick
 
--- the call has a payload: it has not too many ids in its pick
-abbrev pub CallFits : Work → Type 0
-CallFits work = dumped (work_call work) ≡ Ok (canonical (work_call work))
+-- The call has a payload: there are not too many ids in its pick.
+-- Example: that of `s.toml` in mode load has one of 68 bytes.
+pub record CallFits (work : Work) : Type 0 where
+  pub written : dumped (work_call work) ≡ Ok (canonical (work_call work))
 
 -- the call of `run_tests`, on channel 1
 abbrev pub call_message : Work → MessageView

@@ -1,7 +1,6 @@
 -- A hub that ends its links: what it had when it began to, what is left of the links, and what was ended.
 use Rattle.std.specs.Prelude.{◌≡◌, ◌≤◌, ℕ, Bool, true, List, Option, Some, All, is_some, map, slice_get, take}
 use Rattle.std.specs.List.{list_any}
-use Rattle.xd_edge.specs.declared.mode.ModeKind.{ModeKind}
 use Rattle.xd_commands.specs.declared.work.Work.{Work}
 use Rattle.xd_edge.specs.Sink.{Sunk}
 use Rattle.xd_link.specs.Spring.{Spring}
@@ -44,7 +43,7 @@ pub record LinksLeft : Type 0 where
 
 module _ {N : Type 0} {g : _} where
   -- what a hub had that began to end these links
-  abbrev pub began_with : List ℕ → ModeKind → List (Option (Ring × List LinkNews)) → List (Option (Peer N g)) → Began
+  abbrev pub began_with : Work → List (Option (Ring × List LinkNews)) → List (Option (Peer N g)) → Began
   began_with work mails peers = record { work = work; taken = news_of mails; pages = pages_of peers; lost = losses_of peers }
 
 module _ {N X : Type 0} {g : _} where

@@ -10,8 +10,8 @@ pub returns-clause-ran : goal.returns-clause-ran
 returns-clause-ran g c =
     let hub = c.in_ok-hub.ensures in
     let run = c.run_over-ended.ensures in
-    let now : Setup = record { suite = c.in_ok-hub.hub.group.suite; settings = c.in_ok-session.session.settings; places = c.in_ok-hub.hub.places.items } in
-    let same : now ≡ setup_of c.args.suite = rw (hub.suite, c.in_ok-session.ensures.settings, hub.places) refl in
+    let now : Setup = record { suite = c.in_ok-hub.hub.group.work.suite; pick = c.in_ok-hub.hub.group.work.pick; settings = c.in_ok-session.session.settings; places = c.in_ok-hub.hub.places.items } in
+    let same : now ≡ setup_of c.args.suite = rw (hub.work, c.in_ok-session.ensures.settings, hub.places) refl in
     by_three c.end_of.result c.end_of.ensures.ended c.end_of.ensures.starter c.end_of.ensures.crew
     (λ e ended starter crew. linked_run c.run_over-ended.result
     (λ links. ended_links g.St.Src.Source.supply g.St.Src.Source.is_ended g.St.Src.Source.faults g.St.Snk.Sink.sunk g.St.Snk.Sink.faults links.items)

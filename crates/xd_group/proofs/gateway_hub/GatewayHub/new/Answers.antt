@@ -15,8 +15,8 @@ invariant_of-result g c =
     let spares : c.new-5.result.items ≡ [] = search rules in
     let diary = c.in_ok-diary.ensures in
     record {
-      short = c.requires.short;
-      kept = λ e. ∣ kept_first _ _ _ _ _ _ _ c.in_ok-links.ensures.none.0 diary.calls diary.given diary.workers (ap pages_of peers) ∣₁;
+      fits = c.requires.fits;
+      kept = λ e. ∣ kept_first _ _ _ _ _ _ c.in_ok-links.ensures.none.0 diary.calls diary.given diary.workers (ap pages_of peers) ∣₁;
       few = λ e. rw (c.in_ok-links.ensures.crew, c.of-first.ensures) (few_first _ _ diary.fates);
       seats = λ e. ap (λ (l : List _). map is_some (pages_of l)) peers ∙ sym (ap (map is_linked) diary.fates);
       spared = λ e. ap (map is_some) spares ∙ sym (ap (map is_refused) diary.fates);

@@ -5,6 +5,7 @@ use Rattle.std.proofs.Math.Logic.{∥∥₁_map, ∥∥₁_map₂}
 use Rattle.xd_trace.specs.Noted.{noted}
 use Rattle.xd_starts.specs.Children.{starts_told}
 use Rattle.xd_journal.specs.declared.entry.Entry.TheVariants.{Kill}
+use Rattle.xd_group.proofs.Marking.{marks_killed}
 use Rattle.xd_group.proofs.Stepping.{step_called}
 use Rattle.xd_group.proofs.gateway_hub.GatewayHubHub.kill.Goals as goal
 
@@ -20,3 +21,6 @@ invariant_of-self g c =
           (λ kept k. rw (took.starts.0, took.starts.1, took.peers)
           (kills_kill was.children.children.items _ (noted was.group.diary.calls) _ was.group.diary.workers.items was.group.diary.fates.items (losses_of was.group.peers.items) c.args.worker c.kill-cut.result took.called c.requires.started took.some took.none kept.apart c.cut.ensures.children k));
     }
+
+pub returns-clause-marks : goal.returns-clause-marks
+returns-clause-marks g c = marks_killed _ _ _ _ c.args.worker c.kill-cut.ensures.called c.kill-cut.ensures.given

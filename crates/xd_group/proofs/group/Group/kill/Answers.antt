@@ -12,7 +12,7 @@ pub invariant_of-self : goal.invariant_of-self
 invariant_of-self g c =
     let was = c.args.self.now in
     record {
-      short = was.short;
+      fits = was.fits;
       kept = λ e. ∥∥₁_map (was.kept e)
           (λ k. rw (c.note_call.ensures.given, c.note_call.ensures.workers)
           (kept_called was.work (news_of (mails was.links.desk)) (noted was.diary.calls) _ (noted was.diary.given) was.diary.workers.items (pages_of was.peers.items) (Kill c.args.worker) c.note_call.ensures.calls (λ v. refl) (λ v. refl) k));

@@ -25,7 +25,7 @@ invariant_of-self-2 g c =
     let told = c.note_news.ensures in
     let at : slice_get was.diary.workers.items c.in-Some.number ≡ Some n.worker = rw (← took.workers) c.in-Some-worker_at.ensures.at in
     record {
-      short = was.short;
+      fits = was.fits;
       kept = λ e. ∥∥₁_map₂ (was.kept e) (was.unsaid e)
           (λ k u. rw (told.calls, told.workers, took.calls, took.workers)
           (kept_unlinked was.work (news_of (mails was.links.desk)) (noted was.diary.calls) (noted was.diary.given) _ was.diary.workers.items (pages_of was.peers.items) c.in-Some.number n refl

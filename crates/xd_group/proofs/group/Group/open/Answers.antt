@@ -22,7 +22,7 @@ invariant_of-self-2 g c =
     let seat = c.in_ok-seat.ensures in
     let at : c.in-Ok.number ≡ length was.peers.items = search rules in
     record {
-      short = was.short;
+      fits = was.fits;
       kept = λ e. ∥∥₁_map (was.kept e)
           (λ k. rw (last.calls, last.given, last.workers, told.given)
           (kept_started was.work (news_of (mails was.links.desk)) _ (noted was.diary.calls) _ (noted was.diary.given) was.diary.workers.items _ (pages_of was.peers.items) _ c.args.worker c.args.slot none

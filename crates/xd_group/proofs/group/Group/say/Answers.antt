@@ -22,7 +22,7 @@ invariant_of-self-2 g c =
     let was = c.args.self.now in
     let whole = c.if-not-self.false in
     record {
-      short = was.short;
+      fits = was.fits;
       kept = λ e. ∥∥₁_map (was.kept whole)
           (λ k. rw (c.note_call.ensures.given, c.note_call.ensures.workers)
           (kept_told_at was.work (news_of (mails was.links.desk)) (noted was.diary.calls) _ (noted was.diary.given) was.diary.workers.items (pages_of was.peers.items) _ c.in-Some.number c.args.worker c.args.order.now

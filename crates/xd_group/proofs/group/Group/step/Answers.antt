@@ -31,7 +31,7 @@ invariant_of-self-2 g c =
     let took = c.next-number.ensures.news in
     let said = c.note_what-news.ensures in
     record {
-      short = was.short;
+      fits = was.fits;
       kept = λ e. ∥∥₁_map (was.kept whole)
           (λ k. rw (said.calls, said.workers)
           (kept_heard was.work (news_of (mails was.links.desk)) _ (noted was.diary.calls) (noted was.diary.given) _ was.diary.workers.items (pages_of was.peers.items) _ c.next-number.result.0 c.in-Some.worker c.next-number.result.1 c.in_ok-heard.heard.what c.note_what-news.result took.0
