@@ -69,7 +69,7 @@ call_writable : (work : Work) → CanBeCalled work → Writable (work_call work)
 call_writable work c = (refl, (tt, (refl, (((refl, c.scalars), ((refl, word_scalars work.mode), pick_writable work.pick c.ids)), tt))))
 
 call_read : (work : Work) → CanBeCalled work → (v : Tree) → IsPayload v (canonical (work_call work)) → v ≡ work_call work
-call_read work c v p = (dumped_once (work_call work) (canonical (work_call work)) (call_writable work c) c.written).1 v p
+call_read work c v p = (dumped_once (work_call work) (canonical (work_call work)) (call_writable work c) c.written.written).1 v p
 
 -- what the first message says
 pub call_says : (work : Work) (said : Said) → CanBeCalled work → Means (exec_message 1 (canonical (work_call work))) said → said ≡ Exec 1 (work_call work)
