@@ -61,15 +61,15 @@ settings_of a workers = record {
 }
 
 -- the journal whose failed tests are run: alone where --lf names it, else before the others where --ff does
-abbrev pub last_of : Option (List ℕ) → Option (List ℕ) → Option Last
-last_of (Some file) ff = Some (record { file = file; rest = false })
-last_of None (Some file) = Some (record { file = file; rest = true })
-last_of None None = None
+abbrev pub last_named : Option (List ℕ) → Option (List ℕ) → Option Last
+last_named (Some file) ff = Some (record { file = file; rest = false })
+last_named None (Some file) = Some (record { file = file; rest = true })
+last_named None None = None
 
 -- the journals that --journal, --lf and --ff name
 -- Example: `--ff last` keeps no journal, and runs the tests that failed in `last` before the others.
 abbrev pub keeps_of : Option (List ℕ) → Option (List ℕ) → Option (List ℕ) → Keeps
-keeps_of journal lf ff = record { journal = journal; last = last_of lf ff }
+keeps_of journal lf ff = record { journal = journal; last = last_named lf ff }
 
 -- without workers the tests are run in the program itself
 unfoldable pub plan_with_places : Asked → List Place → Plan

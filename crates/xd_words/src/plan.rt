@@ -9,7 +9,7 @@ ghost use Rattle.xd_spec.specs.Spec.{address_in};
 ghost use Rattle.xd_spec.specs.Tx.{tx_of};
 ghost use Rattle.xd_words.specs.Asked.{rows_in};
 ghost use Rattle.xd_words.specs.Command.{file_app, main_app, socketserver_app, worker_app};
-ghost use Rattle.xd_words.specs.Words.{Fits, exclusion, named_file, keeps_of, last_of, main_plan, maxfail_of};
+ghost use Rattle.xd_words.specs.Words.{Fits, exclusion, named_file, keeps_of, last_named, main_plan, maxfail_of};
 ghost use Rattle.xd_words.specs.Words.{places_of, plan_by, plan_for, plan_of, plan_of_utf8, plan_with_places};
 ghost use Rattle.xd_words.specs.Words.{replay_of, serve_at, settings_of, socketserver_plan, wire_of, worker_plan};
 
@@ -350,13 +350,13 @@ fn keeps_of(journal: Option<Text>, lf: Option<Text>, ff: Option<Text>) -> Keeps
 {
     Keeps {
         journal,
-        last: last_of(lf, ff),
+        last: last_named(lf, ff),
     }
 }
 
 // The journal whose failed tests are run.
-fn last_of(lf: Option<Text>, ff: Option<Text>) -> Option<Last>
-    ensures { result ≡ last_of lf ff }
+fn last_named(lf: Option<Text>, ff: Option<Text>) -> Option<Last>
+    ensures { result ≡ last_named lf ff }
 {
     match (lf, ff) {
         (Some(file), _) => Some(Last { file, rest: false }),
