@@ -1,5 +1,5 @@
 -- What was kept of a run, and what is printed of it later.
-use Rattle.std.proofs.Common.{◌≡◌, ℕ, List, sym, subst}
+use Rattle.std.proofs.Common.{◌≡◌, ◌⊎◌, ◌∙◌, ℕ, List, inl, inr, sym, subst}
 use Rattle.std.proofs.lemmas.Bool.{le-leb}
 use Rattle.std.specs.Prelude.{Option, Some, None, IfSome, IsSomeAnd}
 use Rattle.xd_edge.specs.Faults.{StoodStill}
@@ -42,10 +42,14 @@ linked-checked setup (Some j) code links ms old new fits d =
     (le-leb setup.settings.retries most_retries fits.retries) d.run
 
 pub checked-run : (plan : Plan) (end : End) (old new : Outside) → Fits plan → Did plan end old new → IfSome end.journal IsChecked
-checked-run (Local suite maxfail keeps) end old new fits d =
-    local-checked (record { suite = suite; maxfail = maxfail }) end.journal d.own end.tests (around old) (around (record new { streams = d.after })) d.run
-checked-run (Linked suite settings places keeps) end old new fits d =
-    linked-checked (record { suite = suite; settings = settings; places = places }) end.journal d.own end.links end.turns old (record new { streams = d.after }) fits d.run
+checked-run (Local suite maxfail keeps) end old new fits (inl d) =
+    let run = d.3 in
+    local-checked (record { suite = suite; pick = d.0; maxfail = maxfail }) end.journal run.own end.tests (around old) (around (record new { streams = run.after })) run.run
+checked-run (Local suite maxfail keeps) end old new fits (inr d) = none-checked end.journal d.no_run
+checked-run (Linked suite settings places keeps) end old new fits (inl d) =
+    let run = d.3 in
+    linked-checked (record { suite = suite; pick = d.0; settings = settings; places = places }) end.journal run.own end.links end.turns old (record new { streams = run.after }) fits run.run
+checked-run (Linked suite settings places keeps) end old new fits (inr d) = none-checked end.journal d.refused.no_run
 checked-run (Wire file) end old new fits d = none-checked end.journal d.no_run
 checked-run (Replay file) end old new fits d = none-checked end.journal d.no_run
 checked-run Worker end old new fits d = none-checked end.journal d.no_run
@@ -90,12 +94,16 @@ module _ (path : List ℕ) (j : Journal) (short : (place : ℕ) → IsTooLongAt 
 
   told-file : (plan : Plan) (end : End) (old new : Outside) → Did plan end old new → journal_file plan ≡ Some path → end.journal ≡ Some j → StoodStill old.streams.files.faults new.streams.files.faults
       → (bytes : List ℕ) → IsSomeAnd new.streams.files.held (λ file. file path ≡ Some bytes) → IsFileOf j bytes
-  told-file (Local suite maxfail keeps) end old new d named is calm =
-      let same = local-same (record { suite = suite; maxfail = maxfail }) end.journal d.own end.tests (around old) (around (record new { streams = d.after })) is d.run in
+  told-file (Local suite maxfail keeps) end old new (inl did) named is calm =
+      let d = did.3 in
+      let same = local-same (record { suite = suite; pick = did.0; maxfail = maxfail }) end.journal d.own end.tests (around old) (around (record new { streams = d.after })) is d.run in
       has-file d.after.files new.streams.files (written d.own end.status old.streams.files d.after new.streams same calm (kept-in keeps.journal end.journal d.own end.status d.after new.streams named is d.kept))
-  told-file (Linked suite settings places keeps) end old new d named is calm =
-      let same = linked-same (record { suite = suite; settings = settings; places = places }) end.journal d.own end.links end.turns old (record new { streams = d.after }) is d.run in
+  told-file (Local suite maxfail keeps) end old new (inr d) named is calm = absurd (none-some j (sym d.no_run ∙ is))
+  told-file (Linked suite settings places keeps) end old new (inl did) named is calm =
+      let d = did.3 in
+      let same = linked-same (record { suite = suite; pick = did.0; settings = settings; places = places }) end.journal d.own end.links end.turns old (record new { streams = d.after }) is d.run in
       has-file d.after.files new.streams.files (written d.own end.status old.streams.files d.after new.streams same calm (kept-in keeps.journal end.journal d.own end.status d.after new.streams named is d.kept))
+  told-file (Linked suite settings places keeps) end old new (inr d) named is calm = absurd (none-some j (sym d.refused.no_run ∙ is))
   told-file (Wire file) end old new d named is calm = absurd (none-some path named)
   told-file (Replay file) end old new d named is calm = absurd (none-some path named)
   told-file Worker end old new d named is calm = absurd (none-some path named)

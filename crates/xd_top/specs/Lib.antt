@@ -8,4 +8,5 @@ pub mod Top
 pub mod Wire
 pub mod Worker
 pub mod Outside
+pub mod Last
 pub mod Linked

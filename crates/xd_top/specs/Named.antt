@@ -4,7 +4,9 @@ use Rattle.xd_edge.specs.Children.{ChildRun}
 use Rattle.xd_edge.specs.Sink.{Sunk}
 use Rattle.xd_trace.specs.declared.moments.Moments.{Moments}
 use Rattle.xd_suite.specs.declared.test.Test.{Test}
+use Rattle.xd_commands.specs.declared.work.Pick.{Pick}
 use Rattle.xd_journal.specs.declared.journal.Journal.{Journal}
+use Rattle.xd_worker.specs.Turns.{chosen}
 use Rattle.xd_report.specs.Status.{status_of}
 use Rattle.xd_local.specs.Local.{RoundSeen, RunsTests, rounds_seen}
 use Rattle.xd_local.specs.Outside.{Programs, Reach}
@@ -12,9 +14,10 @@ use Rattle.xd_edge.specs.Clock.{Ticking}
 use Rattle.xd_top.specs.Outside.{Outside, Streams}
 use Rattle.xd_top.specs.Refusal.{HasSuite, RefusesSuite}
 
--- what the words give a run without workers: the suite file, and the limit on failures
+-- what the words give a run without workers: the suite file, the tests that are picked of it, and the limit on failures
 pub record LocalWords : Type 0 where
   pub suite : List ℕ
+  pub pick : Option Pick
   pub maxfail : ℕ
 
 -- what it came to: a journal, where a run was begun, the exit status, and how the programs and the output stood after the line
@@ -44,12 +47,12 @@ module _ {K O : Type 0} (runs : K → Option (List ChildRun)) (sunk : O → Opti
   tests_seen None = []
   tests_seen (Some m) = rounds_seen runs sunk m
 
--- The suite file of this name was run: its tests, with their journal, and the status of the journal.
+-- The suite file of this name was run: its tests, or those that are picked of them, with their journal, and the status of the journal.
 -- Example: the suite file lists no test: the run has a journal, and its status is 5.
 pub record RunsNamed (asked : LocalWords) (j : Journal) (code : ℕ) (moments : List RoundSeen) (old new : Around) : Type 0 where
   pub tests : List Test
   pub named : HasSuite old.streams.files.held asked.suite tests
-  pub run : RunsTests tests asked.maxfail j (reach_of old) (reach_of new) moments
+  pub run : RunsTests (chosen asked.pick tests) asked.maxfail j (reach_of old) (reach_of new) moments
   pub status : code ≡ status_of j
   pub files_still : new.streams.files ≡ old.streams.files
   pub quiet : new.streams.err ≡ old.streams.err

@@ -10,7 +10,8 @@ use Rattle.xd_suite.specs.FaultText.{fault_text}
 use Rattle.xd_suite.specs.Faults.{of_file}
 use Rattle.xd_suite.specs.Suite.{IsFaulty, IsSuiteOf}
 use Rattle.xd_top.specs.declared.refusal.Refusal.{Refusal}
-use Rattle.xd_top.specs.declared.refusal.Refusal.TheVariants.{Words, Unread, Suite, FileUnread, FileTooLarge}
+use Rattle.xd_top.specs.declared.refusal.Refusal.TheVariants.{Words, Unread, Suite, FileUnread, FileTooLarge, Journal}
+use Rattle.xd_top.specs.declared.last.BadLast.TheVariants as last
 use Rattle.xd_top.specs.Outside.{Streams}
 use Rattle.xd_top.specs.Said.{SaysLine}
 use Rattle.xd_words.specs.Refusal.{words_line}
@@ -27,6 +28,7 @@ refusal_line Unread = codes "xdrun: suite cannot be read" ++ 10 ∷ []
 refusal_line (Suite fault) = suite_line (fault_text fault)
 refusal_line FileUnread = codes "xdrun: file cannot be read" ++ 10 ∷ []
 refusal_line FileTooLarge = codes "xdrun: file is too large" ++ 10 ∷ []
+refusal_line (Journal why) = codes "xdrun: bad journal" ++ 10 ∷ []
 
 -- The suite file of this name has these tests, where it is told.
 pub record HasSuite (held : Option Held) (suite : List ℕ) (tests : List Test) : Type 0 where
@@ -56,6 +58,7 @@ WhySuiteRefused held suite rose _ = ⊥
 abbrev pub FilesCount : Refusal → ℕ → ℕ → Type 0
 FilesCount Unread before now = Rose before now
 FilesCount FileUnread before now = Rose before now
+FilesCount (Journal last.Unread) before now = Rose before now
 FilesCount _ before now = now ≡ before
 
 -- A refusal: nothing on standard output, its line on standard error, and each file as it was.

@@ -9,6 +9,7 @@ use Rattle.xd_link.specs.declared.place.Place.{Place}
 use Rattle.xd_link.specs.declared.place.Place.TheVariants.{Listen, Own}
 use Rattle.xd_top.specs.declared.refusal.Refusal.TheVariants as refusal
 use Rattle.xd_top.specs.Keeping.{KeepsAround}
+use Rattle.xd_top.specs.Last.{AfterLast, RefusesLast, any_pick, call_fits}
 use Rattle.xd_top.specs.Linked.{DidLinked}
 use Rattle.xd_top.specs.Named.{DidLocal, around}
 use Rattle.xd_drive.specs.Moments.{turns_of}
@@ -20,6 +21,8 @@ use Rattle.xd_top.specs.Refusal.{Refuses}
 use Rattle.xd_top.specs.Replay.{DidReplay}
 use Rattle.xd_top.specs.Wire.{DidWire}
 use Rattle.xd_top.specs.Worker.{DidServe}
+use Rattle.xd_commands.specs.declared.work.Pick.{Pick}
+use Rattle.xd_words.specs.declared.keeps.Last.{Last}
 use Rattle.xd_words.specs.declared.plan.Plan.{Plan}
 use Rattle.xd_words.specs.declared.plan.Plan.TheVariants.{Linked, Local, Refused, Replay, SocketServer, Wire, Worker}
 use Rattle.xd_words.specs.declared.refusal.WordsRefusal.{WordsRefusal}
@@ -62,12 +65,22 @@ pub record RefusesWords (why : WordsRefusal) (end : End) (old new : Outside) : T
   pub no_run : end.journal ≡ None
   pub did : Refuses (refusal.Words why) end.status old.streams new.streams
 
+-- no run on workers: nothing was started
+pub record StartsNothing (last : Option Last) (fits : Pick → Bool) (end : End) (old new : Outside) : Type 0 where
+  pub refused : RefusesLast last fits end.journal end.status old.streams new.streams
+  pub no_link : end.links ≡ []
+  pub rest : new ≡ record old { streams = new.streams }
+
 -- The call did what the words ask for.
 abbrev pub Did : Plan → End → Outside → Outside → Type 0
 Did (Local suite maxfail keeps) end old new =
-    KeepsAround keeps (λ own after. DidLocal (record { suite = suite; maxfail = maxfail }) (record { journal = end.journal; status = own; moments = end.tests }) (around old) (around (record new { streams = after }))) end.journal end.status new.streams
+    AfterLast keeps.last any_pick old.streams.files.held
+    (λ pick. KeepsAround keeps (λ own after. DidLocal (record { suite = suite; pick = pick; maxfail = maxfail }) (record { journal = end.journal; status = own; moments = end.tests }) (around old) (around (record new { streams = after }))) end.journal end.status new.streams)
+    (RefusesLast keeps.last any_pick end.journal end.status old.streams new.streams)
 Did (Linked suite settings places keeps) end old new =
-    KeepsAround keeps (λ own after. DidLinked (record { suite = suite; settings = settings; places = places }) end.journal own end.links end.turns old (record new { streams = after })) end.journal end.status new.streams
+    AfterLast keeps.last (call_fits suite settings.mode) old.streams.files.held
+    (λ pick. KeepsAround keeps (λ own after. DidLinked (record { suite = suite; pick = pick; settings = settings; places = places }) end.journal own end.links end.turns old (record new { streams = after })) end.journal end.status new.streams)
+    (StartsNothing keeps.last (call_fits suite settings.mode) end old new)
 Did (Wire file) end old new = Messages file end old new
 Did (Replay file) end old new = Replays file end old new
 Did Worker end old new = Serves Own end old new

@@ -2,6 +2,7 @@
 #![tactic(auto)]
 
 mod keeping;
+mod last;
 mod laws;
 mod named;
 mod refusal;

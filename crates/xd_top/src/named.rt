@@ -1,19 +1,23 @@
 // `SUITE -n 0`: the suite file is read, and its tests are run in the program itself.
-ghost use Rattle.std.specs.Prelude.{◌≡◌, IfOk, OnOk, IfNone, MatchResult};
+ghost use Rattle.std.specs.Prelude.{◌≡◌, None, IfOk, OnOk, IfNone, MatchResult};
 ghost use Rattle.xd_edge.specs.Faults.{Rose};
 ghost use Rattle.xd_top.specs.Keeping.{KeepsAround};
+ghost use Rattle.xd_top.specs.Last.{AfterLast, RefusesLast, any_pick};
 ghost use Rattle.xd_top.specs.Named.{DidLocal, tests_seen};
 ghost use Rattle.xd_top.specs.Refusal.{FilesCount, HasSuite, WhySuiteRefused};
 
 use crate::keeping::keep;
+use crate::last::pick_failed;
 use crate::refusal::{Refusal, refuse};
 use std::alloc::Global;
 use std::sync::Wait;
+use xd_commands::Pick;
 use xd_edge::{Children, Clock, FileFault, Files, MAX_SUITE_BYTES, OutOfMemory, Sink, Text};
 use xd_journal::Journal;
 use xd_local::{LocalSuite, run_suite};
 use xd_suite::{Suite, SuiteFault, SuiteRefusal, SuiteWhat};
 use xd_trace::Moments;
+use xd_worker::chosen;
 use xd_words::Keeps;
 
 const TOO_LARGE: SuiteFault = SuiteFault {
@@ -52,8 +56,10 @@ pub fn run_and_keep<R: Wait, F: Files, K: Children, T: Clock, O: Sink, E: Sink>(
     out: &mut O,
     err: &mut E,
 ) -> Result<LocalEnd<K, O>, OutOfMemory>
-    ensures did { IfOk result (λ e. KeepsAround keeps.now
-        (λ own after. DidLocal (record { suite = file.suite; maxfail = file.maxfail })
+    ensures did { IfOk result (λ e. AfterLast keeps.now.last any_pick (F.held files.old)
+        (λ pick. KeepsAround keeps.now
+        (λ own after. DidLocal
+        (record { suite = file.suite; pick = pick; maxfail = file.maxfail })
         (record {
           journal = e.journal;
           status = own;
@@ -78,12 +84,30 @@ pub fn run_and_keep<R: Wait, F: Files, K: Children, T: Clock, O: Sink, E: Sink>(
           files = record { held = F.held files.new; faults = F.faults files.new };
           out = record { sunk = O.sunk out.new; faults = O.faults out.new };
           err = record { sunk = E.sunk err.new; faults = E.faults err.new };
-        })) }
+        }))
+        (RefusesLast keeps.now.last any_pick e.journal e.status
+        (record {
+          files = record { held = F.held files.old; faults = F.faults files.old };
+          out = record { sunk = O.sunk out.old; faults = O.faults out.old };
+          err = record { sunk = E.sunk err.old; faults = E.faults err.old };
+        })
+        (record {
+          files = record { held = F.held files.new; faults = F.faults files.new };
+          out = record { sunk = O.sunk out.new; faults = O.faults out.new };
+          err = record { sunk = E.sunk err.new; faults = E.faults err.new };
+        }))) }
     ensures no_child { IfOk result (λ e.
         IfNone e.journal ((e.children ≡ file.children) × (clock.new ≡ clock.old))) }
 {
     let alloc = file.alloc;
-    let end = run_named(rt, file, files, clock, out, err)?;
+    let pick = match pick_failed(alloc, &keeps.last, files)? {
+        Ok(pick) => pick,
+        Err(why) => {
+            let status = refuse(alloc, err, Refusal::Journal(why))?;
+            return Ok(not_run(status, file.children));
+        }
+    };
+    let end = run_named(rt, file, &pick, files, clock, out, err)?;
     let status = keep(alloc, keeps, &end.journal, end.status, files, err)?;
     Ok(LocalEnd {
         status,
@@ -93,16 +117,32 @@ pub fn run_and_keep<R: Wait, F: Files, K: Children, T: Clock, O: Sink, E: Sink>(
     })
 }
 
-// Runs the tests of the suite file, or says why it is refused.
+// What a command came to that began no run.
+fn not_run<K: Children, O>(status: u8, children: K) -> LocalEnd<K, O>
+    ensures status { result.status ≡ status }
+    ensures journal { result.journal ≡ None }
+    ensures children { result.children ≡ children }
+{
+    LocalEnd {
+        status,
+        journal: None,
+        children,
+        moments: None,
+    }
+}
+
+// Runs the tests that are picked of the suite file, or says why it is refused.
 fn run_named<R: Wait, F: Files, K: Children, T: Clock, O: Sink, E: Sink>(
     rt: &R,
     file: LocalFile<K>,
+    pick: &Option<Pick>,
     files: &mut F,
     clock: &mut T,
     out: &mut O,
     err: &mut E,
 ) -> Result<LocalEnd<K, O>, OutOfMemory>
-    ensures did { IfOk result (λ e. DidLocal (record { suite = file.suite; maxfail = file.maxfail })
+    ensures did { IfOk result (λ e. DidLocal
+        (record { suite = file.suite; pick = pick.now; maxfail = file.maxfail })
         (record {
           journal = e.journal;
           status = e.status;
@@ -130,7 +170,8 @@ fn run_named<R: Wait, F: Files, K: Children, T: Clock, O: Sink, E: Sink>(
         IfNone e.journal ((e.children ≡ file.children) × (clock.new ≡ clock.old))) }
 {
     match read_suite(file.alloc, &file.suite, files)? {
-        Ok(tests) => {
+        Ok(suite) => {
+            let tests = chosen(suite, file.alloc, pick)?;
             let suite = LocalSuite {
                 alloc: file.alloc,
                 tests,
@@ -147,12 +188,7 @@ fn run_named<R: Wait, F: Files, K: Children, T: Clock, O: Sink, E: Sink>(
         }
         Err(why) => {
             let status = refuse(file.alloc, err, why)?;
-            Ok(LocalEnd {
-                status,
-                journal: None,
-                children: file.children,
-                moments: None,
-            })
+            Ok(not_run(status, file.children))
         }
     }
 }

@@ -4,6 +4,7 @@ ghost use Rattle.xd_suite.specs.FaultText.{fault_text};
 ghost use Rattle.xd_top.specs.Refusal.{refusal_line, suite_line};
 ghost use Rattle.xd_top.specs.Said.{SaysLine};
 
+use crate::last::BadLast;
 use std::alloc::Global;
 use xd_edge::{OutOfMemory, Sink, print};
 use xd_suite::SuiteFault;
@@ -22,6 +23,8 @@ pub enum Refusal {
     FileUnread,
     /// The file has more bytes than are read: 64 MiB of messages, or 256 MiB of a journal.
     FileTooLarge,
+    /// Nothing can be picked of the journal that `--lf` or `--ff` names.
+    Journal(BadLast),
 }
 
 fn refusal_line(alloc: Global, why: Refusal) -> Result<String, OutOfMemory>
@@ -33,6 +36,7 @@ fn refusal_line(alloc: Global, why: Refusal) -> Result<String, OutOfMemory>
         Refusal::Suite(fault) => suite_line(alloc, fault),
         Refusal::FileUnread => line_of(alloc, "xdrun: file cannot be read\n"),
         Refusal::FileTooLarge => line_of(alloc, "xdrun: file is too large\n"),
+        Refusal::Journal(_) => line_of(alloc, "xdrun: bad journal\n"),
     }
 }
 

@@ -14,7 +14,7 @@ use xd_journal_file::{FormFault, read_journal};
 use xd_replay::{Verdict, check};
 use xd_report::{PrintFault, Reporter, print_lines, print_tail, was_printed};
 
-const MAX_JOURNAL_BYTES: u64 = 268_435_456;
+pub(crate) const MAX_JOURNAL_BYTES: u64 = 268_435_456;
 
 /// Why a file has no journal that a run can have left.
 #[derive(Clone, Copy, Debug, PartialEq, Eq)]
@@ -72,7 +72,7 @@ pub fn replay_named<F: Files, O: Sink, E: Sink>(
 }
 
 // The journal whose file these bytes are, or why there is none that a run can have left.
-fn journal_in(alloc: Global, bytes: Blob) -> Result<Result<Journal, NoJournal>, OutOfMemory>
+pub(crate) fn journal_in(alloc: Global, bytes: Blob) -> Result<Result<Journal, NoJournal>, OutOfMemory>
     ensures { IfOk result (λ r. MatchResult r
         (HasJournal bytes)
         (λ why. IsNoJournal why bytes)) }

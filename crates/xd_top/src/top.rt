@@ -61,6 +61,9 @@ pub struct RunEnd<St: Starter, C: Crew<Reader<St::Src>>, K: Children, O> {
 /// `wire FILE` prints a file of messages. Its status is 0 where the file has no fault, 1 where it has one, 3 where the
 /// text could not be written.
 ///
+/// With `--lf FILE` the tests alone are run that failed in the journal of that file, with `--ff FILE` these first; all of
+/// them where none of them is in the suite. The status is 4 where the file has no journal of a run.
+///
 /// With `--journal FILE` the journal of a run is written to that file after the report. Where it cannot be written the
 /// status is 3.
 ///
@@ -151,6 +154,7 @@ pub fn xdrun<
         } => {
             let suite = LinkedSuite {
                 path: suite,
+                pick: None,
                 settings,
                 places: places.items,
             };

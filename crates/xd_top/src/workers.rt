@@ -4,11 +4,15 @@ ghost use Rattle.std.specs.Str.{all_scalars};
 ghost use Rattle.xd_dist.specs.Linked.{ended_links, setup_of};
 ghost use Rattle.xd_edge.specs.Clock.{Ticking};
 ghost use Rattle.xd_top.specs.Keeping.{KeepsAround};
+ghost use Rattle.xd_top.specs.Last.{AfterLast, call_fits};
 ghost use Rattle.xd_top.specs.Linked.{DidLinked};
-ghost use Rattle.xd_top.specs.Top.{turns_seen};
+ghost use Rattle.xd_top.specs.Named.{tests_seen};
+ghost use Rattle.xd_top.specs.Top.{StartsNothing, turns_seen};
 ghost use Rattle.xd_words.specs.Words.{FitsRun};
 
 use crate::keeping::keep;
+use crate::last::pick_for_workers;
+use crate::refusal::{Refusal, refuse};
 use crate::top::RunEnd;
 use std::alloc::Global;
 use std::sync::Wait;
@@ -19,7 +23,7 @@ use xd_link::Starter;
 use xd_reader::Reader;
 use xd_words::Keeps;
 
-/// Runs the suite on workers, and keeps what is to be kept of the run. What it is not handed stands as it was.
+/// Runs the suite on workers, or what the words pick of it, and keeps what is to be kept of the run. What it is not handed stands as it was.
 pub fn run_on_workers<
     R: Wait,
     F: Files,
@@ -42,8 +46,9 @@ pub fn run_on_workers<
 ) -> Result<RunEnd<St, C, K, O>, OutOfMemory>
     requires { FitsRun suite.path suite.settings suite.places.items }
     ensures did { (runners : ℕ) (clock : Ticking) → IfOk result (λ e.
-        KeepsAround keeps.now
-        (λ own after. DidLinked (setup_of suite) e.journal own
+        AfterLast keeps.now.last (call_fits suite.path suite.settings.mode) (F.held files.old)
+        (λ pick. KeepsAround keeps.now
+        (λ own after. DidLinked (record (setup_of suite) { pick = pick }) e.journal own
         (ended_links St.Src.supply St.Src.is_ended St.Src.faults St.Snk.sunk St.Snk.faults
         e.links.items)
         (turns_seen O.sunk e.turns)
@@ -70,9 +75,69 @@ pub fn run_on_workers<
           files = record { held = F.held files.new; faults = F.faults files.new };
           out = record { sunk = O.sunk out.new; faults = O.faults out.new };
           err = record { sunk = E.sunk err.new; faults = E.faults err.new };
-        })) }
+        }))
+        (StartsNothing keeps.now.last (call_fits suite.path suite.settings.mode)
+        (record {
+          status = e.status;
+          journal = e.journal;
+          links = ended_links St.Src.supply St.Src.is_ended St.Src.faults St.Snk.sunk
+              St.Snk.faults e.links.items;
+          turns = turns_seen O.sunk e.turns;
+          tests = tests_seen K.runs O.sunk e.tests;
+        })
+        (record {
+          streams = record {
+            files = record { held = F.held files.old; faults = F.faults files.old };
+            out = record { sunk = O.sunk out.old; faults = O.faults out.old };
+            err = record { sunk = E.sunk err.old; faults = E.faults err.old };
+          };
+          programs = record { runs = K.runs children; faults = K.faults children };
+          starter = record { begun = St.begun starter; faults = St.faults starter };
+          crews = record { readers = C.faults crew; runners = runners };
+          clock = clock;
+        })
+        (record {
+          streams = record {
+            files = record { held = F.held files.new; faults = F.faults files.new };
+            out = record { sunk = O.sunk out.new; faults = O.faults out.new };
+            err = record { sunk = E.sunk err.new; faults = E.faults err.new };
+          };
+          programs = record { runs = K.runs e.children; faults = K.faults e.children };
+          starter = record { begun = St.begun e.starter; faults = St.faults e.starter };
+          crews = record { readers = C.faults e.crew; runners = runners };
+          clock = clock;
+        }))) }
 {
     text_law(&suite.path);
+    let mode = suite.settings.mode;
+    let pick = match pick_for_workers(alloc, &suite.path, mode, &keeps.last, files)? {
+        Ok(pick) => pick,
+        Err(why) => {
+            let status = refuse(alloc, err, Refusal::Journal(why))?;
+            return Ok(RunEnd {
+                status,
+                journal: None,
+                links: Vec::new(alloc),
+                starter,
+                crew,
+                children,
+                turns: None,
+                tests: None,
+            });
+        }
+    };
+    let LinkedSuite {
+        path,
+        pick: _,
+        settings,
+        places,
+    } = suite;
+    let suite = LinkedSuite {
+        path,
+        pick,
+        settings,
+        places,
+    };
     let end = run_linked(rt, alloc, suite, starter, crew, out)?;
     let journal = Some(end.journal);
     let status = keep(alloc, keeps, &journal, end.status, files, err)?;
