@@ -1,9 +1,11 @@
 // `SUITE -n K`: the suite is run on workers, and what is to be kept of the run is kept.
 ghost use Rattle.std.specs.Prelude.{◌≡◌, ℕ, IfOk, true};
+ghost use Rattle.std.specs.List.{list_all};
 ghost use Rattle.std.specs.Str.{all_scalars};
 ghost use Rattle.xd_dist.specs.Linked.{ended_links, setup_of};
 ghost use Rattle.xd_edge.specs.Clock.{Ticking};
 ghost use Rattle.xd_top.specs.Keeping.{KeepsAround};
+ghost use Rattle.xd_system_messages.specs.Given.{is_text_pick};
 ghost use Rattle.xd_top.specs.Last.{AfterLast, call_fits};
 ghost use Rattle.xd_top.specs.Linked.{DidLinked};
 ghost use Rattle.xd_top.specs.Named.{tests_seen};
@@ -17,6 +19,7 @@ use crate::top::RunEnd;
 use std::alloc::Global;
 use std::sync::Wait;
 use xd_crew::Crew;
+use xd_commands::Pick;
 use xd_dist::{LinkedSuite, run_linked};
 use xd_edge::{Children, Files, OutOfMemory, Sink, Text};
 use xd_link::Starter;
@@ -126,6 +129,7 @@ pub fn run_on_workers<
             });
         }
     };
+    pick_law(&pick);
     let LinkedSuite {
         path,
         pick: _,
@@ -158,4 +162,21 @@ fn text_law(text: &Text)
     ensures { all_scalars text.now ≡ true }
 {
     let _ = text.as_str();
+}
+
+// The ids of a pick are texts, too.
+fn pick_law(pick: &Option<Pick>)
+    ensures { is_text_pick pick.now ≡ true }
+{
+    if let Some(pick) = pick {
+        texts_law(&pick.ids.items);
+    }
+}
+
+fn texts_law(texts: &[Text])
+    ensures { list_all all_scalars texts.now ≡ true }
+{
+    for text in texts {
+        text_law(text);
+    }
 }

@@ -11,9 +11,14 @@ run_on_workers-requires c d = fits_linked _ _ _ _ _ d.in-Linked.is d.in_ok-suite
 pub returns-in-Linked-clause-did : goal.returns-in-Linked-clause-did
 returns-in-Linked-clause-did c d =
     let end = d.in_ok-end-in-Linked.end in
-    did_linked _ _ _ _ _ _ d.in_ok-suite.ensures.plan d.in-Linked.is end.status end.journal
-    (ended_links c.St.Src.Source.supply c.St.Src.Source.is_ended c.St.Src.Source.faults c.St.Snk.Sink.sunk c.St.Snk.Sink.faults end.links.items)
-    (turns_seen c.O.Sink.sunk end.turns) (tests_seen c.K.Children.runs c.O.Sink.sunk end.tests)
+    did_linked _ _ _ _ _ _ d.in_ok-suite.ensures.plan d.in-Linked.is
+    (record {
+      status = end.status;
+      journal = end.journal;
+      links = ended_links c.St.Src.Source.supply c.St.Src.Source.is_ended c.St.Src.Source.faults c.St.Snk.Sink.sunk c.St.Snk.Sink.faults end.links.items;
+      turns = turns_seen c.O.Sink.sunk end.turns;
+      tests = tests_seen c.K.Children.runs c.O.Sink.sunk end.tests;
+    })
     (record {
       streams = record {
         files = record { held = c.F.Files.held d.args.files.now; faults = c.F.Files.faults d.args.files.now };
