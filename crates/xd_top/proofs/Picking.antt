@@ -1,11 +1,18 @@
 -- What is picked of a suite before it is run.
-use Rattle.std.proofs.Common.{◌≡◌, ℕ, Bool, true, false, Option, Some, None, refl}
+use Rattle.std.proofs.Common.{◌≡◌, ℕ, Bool, true, false, Option, Some, None, ap₂, refl}
 use Rattle.xd_edge.specs.Files.{Held}
 use Rattle.xd_commands.specs.declared.work.Pick.{Pick}
 use Rattle.xd_words.specs.declared.keeps.Last.{Last}
 use Rattle.xd_top.specs.declared.last.BadLast.{BadLast}
 use Rattle.xd_top.specs.declared.last.BadLast.TheVariants.{NoRun, TooLarge, TooMany, Unread}
+use Rattle.xd_top.specs.Outside.{Files}
 use Rattle.xd_top.specs.Last.{CanPick, IsUnread, Picks, PicksFailed, WhyBadLast, WhyUnpicked, any_pick}
+
+abbrev files_of : Option Held → ℕ → Files
+files_of held faults = record { held = held; faults = faults }
+
+pub same_files : (a b : Option Held) (m n : ℕ) → b ≡ a → n ≡ m → files_of b n ≡ files_of a m
+same_files a b m n e f = ap₂ files_of e f
 
 pub any_can : (pick : Option Pick) → CanPick any_pick pick
 any_can None = tt

@@ -1,4 +1,4 @@
-use Rattle.std.proofs.Common.{inl, inr, refl}
+use Rattle.std.proofs.Common.{inl, inr, refl, sym}
 use Rattle.xd_local.specs.Outside.{Output}
 use Rattle.xd_top.proofs.Picking.{any_can}
 use Rattle.xd_top.proofs.named.run_and_keep.Goals as goal
@@ -31,7 +31,7 @@ returns-clause-did g c =
           out = out;
           err = record { sunk = g.E.Sink.sunk c.run_named.new.err; faults = g.E.Sink.faults c.run_named.new.err };
         };
-        run = c.in_ok-end.ensures.did;
+        run = rw (sym c.in_ok-pick.ensures.kept, sym (rw (c.in-Ok.is) at c.in_ok-pick.ensures.count)) c.in_ok-end.ensures.did;
         kept = c.in_ok-status.ensures.kept out;
       },
     )

@@ -2,6 +2,7 @@ use Rattle.std.proofs.Common.{◌≡◌, [], ap, inl, inr, refl, rules}
 use Rattle.xd_dist.specs.Linked.{ended_links, setup_of}
 use Rattle.xd_local.specs.Outside.{Output}
 use Rattle.xd_top.proofs.Completes.{completes, run_fits}
+use Rattle.xd_top.proofs.Picking.{same_files}
 use Rattle.xd_top.proofs.workers.run_on_workers.Goals as goal
 
 pub run_linked-requires-clause-fits : goal.run_linked-requires-clause-fits
@@ -49,7 +50,7 @@ returns g c =
             run = c.in_ok-end.ensures.ran;
             complete = completes _ c.requires _ _ _ _ _ _ c.in_ok-end.ensures.ran (run_fits (setup_of c.args.suite) c.in-Ok.pick c.requires fits) c.text_law.ensures c.pick_law.ensures;
             quiet = refl;
-            no_file = c.in_ok-pick.ensures.kept;
+            no_file = same_files _ _ _ _ c.in_ok-pick.ensures.kept (rw (c.in-Ok.is) at c.in_ok-pick.ensures.count);
             no_program = refl;
             no_runner = refl;
             no_moment = refl;
