@@ -57,11 +57,11 @@ fits_linked found suite s places keeps is fits its_places the_places =
 pub did_linked : (asked found : Plan) (suite : List ℕ) (s : Settings) (places : List Place) (keeps : Keeps) → found ≡ asked → found ≡ Linked suite s places keeps
     → (end : End) (old new : Outside) (its_places : List Place) → its_places ≡ places
     → AfterLast keeps.last (call_fits suite s.mode) old.streams.files.held
-      (λ pick. KeepsAround keeps (λ own after. DidLinked (record { suite = suite; pick = pick; settings = s; places = its_places }) end.journal own end.links end.turns old (record new { streams = after })) end.journal end.status new.streams)
-      (StartsNothing keeps.last (call_fits suite s.mode) end old new)
+    (λ pick. KeepsAround keeps (λ own after. DidLinked (record { suite = suite; pick = pick; settings = s; places = its_places }) end.journal own end.links end.turns old (record new { streams = after })) end.journal end.status new.streams)
+    (StartsNothing keeps.last (call_fits suite s.mode) end old new)
     → Did asked end old new
 did_linked asked found suite s places keeps its is end old new its_places the_places did =
     let run = subst (λ (ps : List Place). AfterLast keeps.last (call_fits suite s.mode) old.streams.files.held
-      (λ pick. KeepsAround keeps (λ own after. DidLinked (record { suite = suite; pick = pick; settings = s; places = ps }) end.journal own end.links end.turns old (record new { streams = after })) end.journal end.status new.streams)
-      (StartsNothing keeps.last (call_fits suite s.mode) end old new)) the_places did in
+    (λ pick. KeepsAround keeps (λ own after. DidLinked (record { suite = suite; pick = pick; settings = s; places = ps }) end.journal own end.links end.turns old (record new { streams = after })) end.journal end.status new.streams)
+    (StartsNothing keeps.last (call_fits suite s.mode) end old new)) the_places did in
     subst (λ (p : Plan). Did p end old new) (sym is ∙ its) run

@@ -17,8 +17,8 @@ use xd_journal::Journal;
 use xd_local::{LocalSuite, run_suite};
 use xd_suite::{Suite, SuiteFault, SuiteRefusal, SuiteWhat};
 use xd_trace::Moments;
-use xd_worker::chosen;
 use xd_words::Keeps;
+use xd_worker::chosen;
 
 const TOO_LARGE: SuiteFault = SuiteFault {
     test: None,

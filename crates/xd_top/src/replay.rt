@@ -72,7 +72,10 @@ pub fn replay_named<F: Files, O: Sink, E: Sink>(
 }
 
 // The journal whose file these bytes are, or why there is none that a run can have left.
-pub(crate) fn journal_in(alloc: Global, bytes: Blob) -> Result<Result<Journal, NoJournal>, OutOfMemory>
+pub(crate) fn journal_in(
+    alloc: Global,
+    bytes: Blob,
+) -> Result<Result<Journal, NoJournal>, OutOfMemory>
     ensures { IfOk result (λ r. MatchResult r
         (HasJournal bytes)
         (λ why. IsNoJournal why bytes)) }
