@@ -58,12 +58,12 @@ def play(me, spoken, read, write):
         raise Wrong(f"and then it says {more!r}")
 
 
-def play_worker(program, suite, folder, spoken):
-    """A worker of this script, at the program's controller."""
+def play_worker(program, suite, folder, spoken, *words):
+    """A worker of this script, at the program's controller, which is run with these further words."""
     with socket.create_server((HERE, 0)) as server:
         server.settimeout(SECONDS)
         place = f"socket={HERE}:{server.getsockname()[1]}"
-        child = subprocess.Popen([program, suite, "--tx", place], cwd=folder, stdout=subprocess.PIPE, text=True)
+        child = subprocess.Popen([program, suite, "--tx", place, *words], cwd=folder, stdout=subprocess.PIPE, text=True)
         with child:
             try:
                 link, _ = server.accept()

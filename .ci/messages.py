@@ -29,10 +29,24 @@ def message(kind, channel, payload=b""):
     return struct.pack("!bii", kind, channel, len(payload)) + payload
 
 
+def truth(value):
+    return b"R" if value else b"C"
+
+
 def call(channel, name, **kwargs):
-    """The call of a function of the worker."""
-    pairs = b"".join(pair(key, text(word)) for key, word in kwargs.items())
+    """The call of a function of the worker, whose keyword arguments are texts."""
+    return call_with(channel, name, b"".join(pair(key, text(word)) for key, word in kwargs.items()))
+
+
+def call_with(channel, name, pairs):
+    """The call of a function of the worker, with these pairs as its keyword arguments."""
     return message(CHANNEL_EXEC, channel, text("") + b"L" + text(name) + b"J" + pairs + b"@" + struct.pack("!i", 4) + b"Q")
+
+
+def picking(suite, mode, names, rest):
+    """The call that runs the tests of these names, and with `rest` the others after them."""
+    pick = pair("pick", items([text(name) for name in names])) + pair("rest", truth(rest))
+    return call_with(1, "run_tests", pair("suite", text(suite)) + pair("dist", text(mode)) + pick)
 
 
 def event(name, pairs=b""):
