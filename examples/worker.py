@@ -28,7 +28,7 @@ def loads(payload):
     stack, at = [], 0
     while (opcode := payload[at : at + 1]) != b"@":
         count = int.from_bytes(payload[at + 1 : at + 5], "big")
-        at += 1 if opcode in b"JLP" else 5
+        at += 1 if opcode in b"JLPRC" else 5
         if opcode == b"P":
             item, key = stack.pop(), stack.pop()
             stack[-1][key] = item
@@ -36,8 +36,16 @@ def loads(payload):
             stack.append(payload[at : at + count].decode())
             at += count
         else:
-            stack.append({b"F": count, b"J": {}, b"K": {}, b"L": None}[opcode])
+            stack.append({b"F": count, b"J": {}, b"K": {}, b"L": None, b"R": True, b"C": False}[opcode])
     return stack
+
+
+def picked(ids, call):
+    """The places of the tests that a call picks, and then of the others, where it wants them; or of all."""
+    pick, places = set(call.get("pick", {}).values()), range(len(ids))
+    named = [place for place in places if ids[place] in pick]
+    others = [place for place in places if ids[place] not in pick]
+    return named + others if call.get("rest", True) or not named else named
 
 
 class Worker:
@@ -105,6 +113,7 @@ def main():
         worker.say(CLOSE_ERROR, CALL, text(f"{file}: {fault!r}") + b"Q")
         worker.read()
     names = [name for name in found if name.startswith("test")]
+    names = [names[place] for place in picked([f"{file}::{name}" for name in names], worker.call)]
     worker.count = len(names)
     worker.event("collectionfinish", ids=items(text(f"{file}::{name}") for name in names))
     following = worker.take()
