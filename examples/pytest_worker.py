@@ -23,7 +23,7 @@ import time
 
 import pytest
 
-from worker import CALL, CLOSE, CLOSE_ERROR, DATA, END, MOST_LOG, items, loads, number, text
+from worker import CALL, CLOSE, CLOSE_ERROR, DATA, END, MOST_LOG, items, loads, number, picked, text
 
 # The project's modules come first, as under python3 -m pytest, and it may have a `worker` of its own.
 sys.path[0] = os.getcwd()
@@ -199,6 +199,8 @@ class Items:
         if self.faults:
             return True
         self.has_collected = True
+        session.items[:] = picked_items(session.items, self.link.call)
+        ids = [id_of(item, self.link.call["dist"]) for item in session.items]
         for test, following in self.link.tests(ids):
             item = session.items[test]
             next_item = None if following is END else session.items[following]
@@ -225,6 +227,15 @@ def id_of(item, mode):
     if mark is None:
         return item.nodeid
     return f"{item.nodeid}@{mark.args[0] if mark.args else mark.kwargs.get('name', 'default')}"
+
+
+def picked_items(collected, call):
+    """The items that a call picks, by their ids with their groups or without, and then the others, where it
+    wants them; or all."""
+    pick = set(call.get("pick", {}).values())
+    pairs = [(item.nodeid, id_of(item, "loadgroup")) for item in collected]
+    named = [whole if whole in pick else plain for plain, whole in pairs]
+    return [collected[place] for place in picked(named, call)]
 
 
 def faults_of(ids):
