@@ -6,7 +6,7 @@ use Rattle.xd_words.specs.declared.keeps.Last.{Last}
 use Rattle.xd_top.specs.declared.last.BadLast.{BadLast}
 use Rattle.xd_top.specs.declared.last.BadLast.TheVariants.{NoRun, TooLarge, TooMany, Unread}
 use Rattle.xd_top.specs.Outside.{Files}
-use Rattle.xd_top.specs.Last.{CanPick, IsUnread, Picks, PicksFailed, WhyBadLast, WhyUnpicked, any_pick}
+use Rattle.xd_top.specs.Last.{CanPick, WhyNoJournal, Picks, PicksFailed, WhyBadLast, WhyUnpicked, any_pick}
 
 abbrev files_of : Option Held → ℕ → Files
 files_of held faults = record { held = held; faults = faults }
@@ -19,7 +19,7 @@ any_can None = tt
 any_can (Some pick) = refl
 
 -- a file without a journal is one for each bound on picks
-pub unread_bad : (last : Last) (fits : Pick → Bool) (held : Option Held) (rose : Type 0) (why : BadLast) → IsUnread last.file held rose why → WhyBadLast last fits held rose why
+pub unread_bad : (last : Last) (fits : Pick → Bool) (held : Option Held) (rose : Type 0) (why : BadLast) → WhyNoJournal last.file held rose why → WhyBadLast last fits held rose why
 unread_bad last fits held rose Unread h = h
 unread_bad last fits held rose TooLarge h = h
 unread_bad last fits held rose NoRun h = h

@@ -58,11 +58,11 @@ pub record HasNoJournal (held : Option Held) (path : List ℕ) : Type 0 where
   pub is : IsNoJournal why bytes
 
 -- why the file of this name has no journal to pick from
-abbrev pub IsUnread : List ℕ → Option Held → Type 0 → BadLast → Type 0
-IsUnread path held rose Unread = rose
-IsUnread path held rose TooLarge = HasLarger held path most_journal_bytes
-IsUnread path held rose NoRun = HasNoJournal held path
-IsUnread path held rose TooMany = ⊥
+abbrev pub WhyNoJournal : List ℕ → Option Held → Type 0 → BadLast → Type 0
+WhyNoJournal path held rose Unread = rose
+WhyNoJournal path held rose TooLarge = HasLarger held path most_journal_bytes
+WhyNoJournal path held rose NoRun = HasNoJournal held path
+WhyNoJournal path held rose TooMany = ⊥
 
 -- The tests of its journal are too many for a call.
 pub record PicksTooMany (last : Last) (fits : Pick → Bool) (held : Option Held) : Type 0 where
@@ -73,7 +73,7 @@ pub record PicksTooMany (last : Last) (fits : Pick → Bool) (held : Option Held
 -- why nothing can be picked of the named journal; `rose` says that the count of faults of the files rose
 abbrev pub WhyBadLast : Last → (Pick → Bool) → Option Held → Type 0 → BadLast → Type 0
 WhyBadLast last fits held rose TooMany = PicksTooMany last fits held
-WhyBadLast last fits held rose why = IsUnread last.file held rose why
+WhyBadLast last fits held rose why = WhyNoJournal last.file held rose why
 
 -- the same of words that may name one
 abbrev pub WhyUnpicked : Option Last → (Pick → Bool) → Option Held → Type 0 → BadLast → Type 0

@@ -1,7 +1,7 @@
 // `--lf FILE` and `--ff FILE`: the tests that failed in a journal are picked of the suite.
 ghost use Rattle.std.specs.Prelude.{◌≡◌, true, false, Some, ⊤, IfOk, MatchResult, OnOk};
 ghost use Rattle.xd_edge.specs.Faults.{Rose};
-ghost use Rattle.xd_top.specs.Last.{CanPick, IsUnread, Picks, ReadsJournal, WhyUnpicked, any_pick, call_fits};
+ghost use Rattle.xd_top.specs.Last.{CanPick, WhyNoJournal, Picks, ReadsJournal, WhyUnpicked, any_pick, call_fits};
 ghost use Rattle.xd_top.specs.Refusal.{FilesCount};
 ghost use Rattle.xd_top.specs.declared.last.BadLast.TheVariants.{TooMany};
 ghost use Rattle.xd_top.specs.declared.refusal.Refusal.TheVariants as refusal;
@@ -110,7 +110,7 @@ fn read_last<F: Files>(
 ) -> Result<Result<Journal, BadLast>, OutOfMemory>
     ensures read { IfOk result (λ r. MatchResult r
         (ReadsJournal (F.held files.old) path.now)
-        (IsUnread path.now (F.held files.old) (Rose (F.faults files.old) (F.faults files.new)))) }
+        (WhyNoJournal path.now (F.held files.old) (Rose (F.faults files.old) (F.faults files.new)))) }
     ensures count { IfOk result (λ r. MatchResult r
         (λ _. F.faults files.new ≡ F.faults files.old)
         (λ why. FilesCount (refusal.Journal why) (F.faults files.old) (F.faults files.new))) }
