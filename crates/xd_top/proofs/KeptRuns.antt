@@ -11,6 +11,7 @@ use Rattle.xd_journal_file.specs.FileOf.{IsFileOf, IsTooLongAt}
 use Rattle.xd_replay.specs.Alone.{most_retries}
 use Rattle.xd_replay.specs.Checked.{IsChecked}
 use Rattle.xd_replay_laws.proofs.Runs as left
+use Rattle.xd_worker.specs.Turns.{chosen}
 use Rattle.xd_words.specs.declared.plan.Plan.{Plan}
 use Rattle.xd_words.specs.declared.plan.Plan.TheVariants.{Linked, Local, Refused, Replay, SocketServer, Wire, Worker}
 use Rattle.xd_words.specs.Words.{Fits, FitsRun}
@@ -33,7 +34,7 @@ none-checked o e = subst (λ (x : Option Journal). IfSome x IsChecked) (sym e) t
 
 local-checked : (asked : LocalWords) (o : Option Journal) (code : ℕ) (ms : List RoundSeen) (old new : Around) → DidBy asked o code ms old new → IfSome o IsChecked
 local-checked asked None code ms old new d = tt
-local-checked asked (Some j) code ms old new d = left.local-checked d.tests asked.maxfail j (reach_of old) (reach_of new) ms d.run
+local-checked asked (Some j) code ms old new d = left.local-checked (chosen asked.pick d.tests) asked.maxfail j (reach_of old) (reach_of new) ms d.run
 
 linked-checked : (setup : Setup) (o : Option Journal) (code : ℕ) (links : List EndedLink) (ms : List TurnScene) (old new : Outside) → FitsRun setup.suite setup.settings setup.places → DidLinked setup o code links ms old new → IfSome o IsChecked
 linked-checked setup None code links ms old new fits d = tt

@@ -9,7 +9,7 @@ use Rattle.xd_suite.specs.declared.test.Test.{Test}
 use Rattle.xd_suite.specs.Suite.{IsFaulty}
 use Rattle.xd_suite.proofs.OneAnswer.{not_both}
 use Rattle.xd_top.specs.declared.refusal.Refusal.{Refusal}
-use Rattle.xd_top.specs.declared.refusal.Refusal.TheVariants.{Words, Unread, Suite, FileUnread, FileTooLarge}
+use Rattle.xd_top.specs.declared.refusal.Refusal.TheVariants.{Words, Unread, Suite, FileUnread, FileTooLarge, Journal}
 use Rattle.xd_top.specs.Outside.{Streams}
 use Rattle.xd_top.specs.Refusal.{HasRefused, Refuses, RefusesSuite, TellsTests, WhySuiteRefused}
 
@@ -43,6 +43,7 @@ module _ (held : Option Held) (suite : List ℕ) (tests : List Test) (told : Tel
   no_cause (Suite fault) rose cause calm = not_refused fault cause
   no_cause FileUnread rose cause calm = cause
   no_cause FileTooLarge rose cause calm = cause
+  no_cause (Journal why) rose cause calm = cause
 
 pub refuses_suite : (suite : List ℕ) (status : ℕ) (old new : Streams) (why : Refusal)
     → WhySuiteRefused old.files.held suite (Rose old.files.faults new.files.faults) why → Refuses why status old new → RefusesSuite suite status old new

@@ -17,6 +17,7 @@ use Rattle.xd_report.specs.Printing.{ShowsEnd}
 use Rattle.xd_report.specs.Text.{run_text, text_of}
 use Rattle.xd_report.proofs.Prints.{shows-end}
 use Rattle.xd_top.specs.declared.refusal.Refusal.{Refusal}
+use Rattle.xd_top.specs.declared.refusal.Refusal.TheVariants as refused
 use Rattle.xd_top.specs.declared.refusal.Refusal.TheVariants.{FileTooLarge, FileUnread, Suite, Unread, Words}
 use Rattle.xd_top.specs.declared.replay.NoJournal.{NoJournal}
 use Rattle.xd_top.specs.declared.replay.NoJournal.TheVariants as lacks
@@ -69,6 +70,7 @@ module _ (path : List ℕ) (old new : Streams) (j : Journal) (tells : TellsJourn
   not-unread Unread rose cause calm = cause
   not-unread (Suite fault) rose cause calm = cause
   not-unread FileUnread rose cause calm = calm cause
+  not-unread (refused.Journal why) rose cause calm = cause
   not-unread FileTooLarge rose cause calm =
       let larger = told_larger old.files.held path tells.bytes most_journal_bytes tells.told cause in
       let small = tells.small in
